@@ -1,0 +1,8 @@
+// The chunk layer of DSDIFF: everything that is a chunk, and nothing that is a field of one.
+pub mod cursor; // cursor.rt: the writing cursor, its bytes and names
+pub mod numbers; // numbers.rt: big-endian numbers
+pub mod chunks; // chunks.rt: chunk heads, pads, whole chunks, and what a chunk occupies
+pub mod time; // time.rt: the time of a frame
+pub mod names; // names.rt: reserved names, speaker names, and the chunks whose order is an option
+
+pub use cursor::Cursor;

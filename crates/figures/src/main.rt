@@ -1,0 +1,11 @@
+// Works out the figures of document 01 and prints them; the file stdout holds what they must be.
+mod chunks; // chunks.rt: numbers, chunks, frame times, names
+mod print; // print.rt: lines of text, numbers and bytes
+
+fn main() {
+    chunks::times();
+    chunks::sizes();
+    chunks::chunks();
+    chunks::short_buffers();
+    chunks::names();
+}

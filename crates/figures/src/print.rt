@@ -1,0 +1,32 @@
+use libc::STDOUT_FILENO;
+
+pub fn text(s: &[u8]) {
+    io::write_all(STDOUT_FILENO, s);
+}
+
+pub fn number(n: u64) {
+    io::print_decimal(STDOUT_FILENO, n);
+}
+
+fn wide(b: u8) -> u64 {
+    b as u64
+}
+
+// A line of bytes, each as two hexadecimal digits.
+pub fn bytes(s: &[u8]) {
+    let mut i = 0;
+    while i < s.len() {
+        text(b" ");
+        io::print_hex(STDOUT_FILENO, wide(s[i]), 2);
+        i += 1;
+    }
+    text(b"\n");
+}
+
+pub fn yes_or_no(yes: bool) {
+    if yes {
+        text(b" yes\n");
+    } else {
+        text(b" no\n");
+    }
+}
