@@ -6,3 +6,4 @@ pub mod TreeLaws
 pub mod ReaderLaws
 pub mod WalkLaws
 pub mod GatherLaws
+pub mod Examples

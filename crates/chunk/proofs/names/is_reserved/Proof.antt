@@ -1,15 +1,14 @@
-use Prim.Native.Nat.{_≤_, _-_}
+-- `names::is_reserved` meets its contract. The loop's invariant: `found` tells whether the name is among the first i of the table.
+-- At its end these are the nine names of the definition. Assumes nothing.
+use Prim.Native.Nat.{_≤_, _<_, _-_}
 use mathlib.Core.Path.{_≡_, refl}
 use native.Mathlib.Numerals.{add-one}
-use lib.ListN.{take}
 use borrow.Author.Needs.{needs}
+use lib.ListN.{take}
 use Rattle.chunk.specs.Name.{among, reservedNames}
 use Rattle.chunk.proofs.NameLaws.{among-take}
 use Rattle.chunk.proofs.names.is_reserved.Statement.{statement}
 use Rattle.chunk.proofs.names.is_reserved.Tie as tie
-use Rattle.chunk.proofs.names.is_reserved.Reads as reads
-use Rattle.chunk.proofs.names.is_reserved.Lts as lts
-use Rattle.chunk.proofs.names.same_id.Reads as same-id-reads
 
 abbrev Inv-loop : tie.InvT-loop
 Inv-loop id ids found₀ i₀ found i = (i ≤ 9) × (found ≡ among id (take i ids))
@@ -21,27 +20,11 @@ loop-holds : tie.Need-loop-holds Inv-loop μ-loop
 unfolding among
 loop-holds c = (search needs, refl)
 
-mul-same-id : tie.Need-mul-same-id Inv-loop μ-loop
-mul-same-id c = search needs
-
-array-copy-out-same-id : tie.Need-array-copy-out-same-id Inv-loop μ-loop
-array-copy-out-same-id c = search needs
-
-same-id-requires : tie.Need-same-id-requires Inv-loop μ-loop
-same-id-requires c κs = search needs
-
-add-i : tie.Need-add-i Inv-loop μ-loop
-add-i c = search needs
-
-loop-less : tie.Need-loop-less Inv-loop μ-loop
-loop-less c = search needs
-
 loop-again : tie.Need-loop-again Inv-loop μ-loop
-unfolding reservedNames
 loop-again c =
     let turn = c .before .before .before in
-    let id = turn .before .args .id in
-    (search needs, rw (add-one, among-take id reservedNames (turn .loop .i) (search needs)) (cc))
+    let more : turn .loop .i < 9 = search needs in
+    (search needs, rw (add-one, among-take) (cc))
 
 returns : tie.Need-returns Inv-loop μ-loop
 unfolding reservedNames
@@ -56,10 +39,10 @@ is-reserved-spec =
     Inv-loop
     μ-loop
     loop-holds
-    mul-same-id
-    array-copy-out-same-id
-    same-id-requires
-    add-i
-    loop-less
+    (λ c. search needs)
+    (λ c. search needs)
+    (λ c κs. tt)
+    (λ c. search needs)
+    (λ c. search needs)
     loop-again
     returns)
