@@ -10,7 +10,7 @@ use mathlib.Core.Option.{Option, none, some, IsSome}
 use lib.ListN.{length, getElem?, take, drop}
 use borrow.Author.Tests.{leb-true}
 use lib.Dec.{T, leb, ltb, leb·zero, leb·suc-zero, leb·suc-suc, ltb→lt, lt→ltb}
-use Rattle.chunk.specs.Gather.{Read, refused, accepted, Kept, Gathered, nothing, orElse, add, gather, covered, Holds, window}
+use Rattle.chunk.specs.Gather.{Read, refused, accepted, Faithful, Gathered, nothing, orElse, add, gather, covered, Holds, window}
 
 -- two tests that pass alike are equal
 alike : (a b : Bool) → (T a → T b) → (T b → T a) → a ≡ b
@@ -60,7 +60,7 @@ merged false true none y = refl
 merged false true (some a) y = refl
 merged false false x y = refl
 
-gather-from : (file : List ℕ) (reads : List Read) (g : Gathered) (p : ℕ) → Kept file reads
+gather-from : (file : List ℕ) (reads : List Read) (g : Gathered) (p : ℕ) → Faithful file reads
     → gather g reads p ≡ orElse (cond (covered reads p) (getElem? file p) none) (g p)
 unfolding gather covered
 gather-from file [] g p k = refl
@@ -74,7 +74,7 @@ or-nothing none = refl
 or-nothing (some a) = refl
 
 -- What reads gather from nothing, refused ones included: the file's bytes where an accepted read covers them, and nothing elsewhere.
-pub gather-reads : (file : List ℕ) (reads : List Read) (p : ℕ) → Kept file reads → gather nothing reads p ≡ cond (covered reads p) (getElem? file p) none
+pub gather-reads : (file : List ℕ) (reads : List Read) (p : ℕ) → Faithful file reads → gather nothing reads p ≡ cond (covered reads p) (getElem? file p) none
 gather-reads file reads p k = gather-from file reads nothing p k ∙ or-nothing (cond (covered reads p) (getElem? file p) none)
 
 getElem?-past : (l : List ℕ) (p : ℕ) → length l ≤ p → getElem? l p ≡ none
@@ -83,7 +83,7 @@ getElem?-past (x ∷ l) zero h = absurd (not-suc-le-zero h)
 getElem?-past (x ∷ l) (suc p) h = getElem?-past l p (le-of-suc-le-suc h)
 
 -- Once every place of the file is gathered, what is gathered is the file.
-pub gather-whole : (file : List ℕ) (reads : List Read) → Kept file reads → ((p : ℕ) → p < length file → IsSome (gather nothing reads p))
+pub gather-whole : (file : List ℕ) (reads : List Read) → Faithful file reads → ((p : ℕ) → p < length file → IsSome (gather nothing reads p))
     → Holds (gather nothing reads) file
 gather-whole file reads k whole p = e ∙ go (decLt p (length file))
   where

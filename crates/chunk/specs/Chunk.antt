@@ -1,4 +1,5 @@
--- A chunk: a 4-byte name, an 8-byte data size, data, and one zero if the size is odd (01). Assumes nothing.
+-- Chunks (01: "A chunk is a 4-byte name, an 8-byte data size, data, and one zero if the size is odd; it occupies 12 + size + size mod 2").
+-- Assumes nothing.
 use Prim.Native.Nat.{ℕ, _+_, _%_}
 use mathlib.Core.List.{List, _++_}
 use lib.ListN.{length, replicate}
@@ -9,6 +10,7 @@ use Rattle.chunk.specs.Name.{Name}
 unfoldable pub pad : ℕ → List ℕ
 pad size = replicate (size % 2) 0
 
+-- a chunk with this name and data
 unfoldable pub chunk : Name → List ℕ → List ℕ
 chunk name content = name ++ be 8 (length content) ++ content ++ pad (length content)
 

@@ -12,7 +12,7 @@ use Rattle.chunk.specs.declared.names.InfoChunk.the-variants.{EditedMast
 use Rattle.chunk.specs.declared.names.LocalChunk.{LocalChunk}
 use Rattle.chunk.specs.declared.names.LocalChunk.the-variants.{Property, SoundData, DstIndex, EditedMasterInfo, Comments}
 
--- four bytes
+-- the name of a chunk or of a speaker: four bytes
 abbrev pub Name : Type 0
 Name = List ℕ
 
@@ -33,14 +33,14 @@ unfoldable pub among : Name → List Name → Bool
 among name [] = false
 among name (n ∷ ns) = same n name || among name ns
 
--- refusal 5: the names that a caller's chunk may not have
+-- the names that a caller's chunk may not have (01, refusal 5)
 unfoldable pub reservedNames : List Name
 reservedNames = map ascii ("FRM8" ∷ "FVER" ∷ "PROP" ∷ "DSD " ∷ "DST " ∷ "DSTI" ∷ "COMT" ∷ "DIIN" ∷ "MANF" ∷ [])
 
 abbrev pub reserved : Name → Bool
 reserved name = among name reservedNames
 
--- the speakers of each layout, in the order of their channels
+-- the speakers' names of each layout, in the order of the channels (01, "Names")
 abbrev pub stereo : List Name
 stereo = map ascii ("SLFT" ∷ "SRGT" ∷ [])
 
@@ -50,7 +50,7 @@ threeTwo = map ascii ("MLFT" ∷ "MRGT" ∷ "C   " ∷ "LS  " ∷ "RS  " ∷ [])
 abbrev pub fivePointOne : List Name
 fivePointOne = map ascii ("MLFT" ∷ "MRGT" ∷ "C   " ∷ "LFE " ∷ "LS  " ∷ "RS  " ∷ [])
 
--- default orders: the chunks of PROP, of DIIN, and the local chunks of the file
+-- the default orders (01: "the Rust prevails on option defaults"): the chunks of PROP, of DIIN, and the local chunks of the file
 abbrev pub propertyOrder : List PropertyChunk
 propertyOrder = SampleRate ∷ Channels ∷ CompressionType ∷ AbsoluteStartTime ∷ LoudspeakerConfiguration ∷ []
 

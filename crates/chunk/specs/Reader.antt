@@ -1,4 +1,5 @@
--- The old reader of 01, and what it is to report of a tree. Assumes nothing.
+-- The old reader (01, "Old readers": "Up to a part's end it takes name, size, data and pad, and fails if they don't fit. Unknown under this
+-- parent, a chunk is passed over; known, it is reported with name, parent and value"), and what it is to report of a tree. Assumes nothing.
 use mathlib.Core.Path.{_≡_}
 use Prim.Native.Nat.{ℕ, zero, suc, _+_}
 use mathlib.Core.Bool.{Bool, cond}
@@ -18,6 +19,7 @@ pub record Reader : Type 0 where
   pub inner : Name → Name → Option ℕ
   pub value : Name → Name → List ℕ → List ℕ
 
+-- what a reader says of a known chunk
 pub record Report : Type 0 where
   pub parent : Name
   pub name : Name
@@ -49,6 +51,7 @@ _>>=_ (some a) f = f a
 
 infixl 20 _>>=_
 module _ (r : Reader) where
+  -- the report of a chunk with this data, or of a container with this form
   unfoldable pub report : Name → Name → List ℕ → Report
   report parent name content = record { parent = parent; name = name; value = r .value parent name content }
 

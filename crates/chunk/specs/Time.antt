@@ -1,4 +1,5 @@
--- The time of a frame (01, "Frame time g"). Assumes nothing.
+-- The time of a frame (01: "Frame time g: hours g/270,000 (u16), minutes g/4,500 mod 60, seconds g/75 mod 60 (bytes), samples (g mod 75) ×
+-- 37,632 (u32)"). Assumes nothing.
 use Prim.Native.Nat.{ℕ, _*_, _/_, _%_, _^_}
 use mathlib.Core.List.{List, [], _∷_, _++_}
 use Rattle.chunk.specs.Number.{be}

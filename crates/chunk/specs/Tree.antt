@@ -11,6 +11,7 @@ pub data Chunks : Type 0 where
   leaf : (name content : List ℕ) → Chunks → Chunks
   node : (name form : List ℕ) → Chunks → Chunks → Chunks
 
+-- the chunks written out; a container's data is its form and the chunks in it
 unfoldable pub bytes : Chunks → List ℕ
 bytes stop = []
 bytes (leaf name content rest) = chunk name content ++ bytes rest

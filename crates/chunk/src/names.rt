@@ -2,7 +2,7 @@
 ghost use mathlib.Core.Path.{_≡_};
 ghost use Rattle.chunk.specs.Name.{same, reserved, stereo, threeTwo, fivePointOne, propertyOrder, infoOrder, localOrder};
 
-// The names that DSDIFF gives to its own chunks: a caller's chunk has none of them.
+// The names of DSDIFF's own chunks, which a caller's chunk may not have (refusal 5).
 const RESERVED_IDS: [[u8; 4]; 9] = [
     *b"FRM8",
     *b"FVER",
@@ -23,11 +23,11 @@ const FIVE_POINT_ONE: [[u8; 4]; 6] = [*b"MLFT", *b"MRGT", *b"C   ", *b"LFE ", *b
 
 // A chunk of PROP.
 pub enum PropertyChunk {
-    SampleRate,
-    Channels,
-    CompressionType,
-    AbsoluteStartTime,
-    LoudspeakerConfiguration,
+    SampleRate, // FS
+    Channels, // CHNL
+    CompressionType, // CMPR
+    AbsoluteStartTime, // ABSS
+    LoudspeakerConfiguration, // LSCO
 }
 
 impl PropertyChunk {
@@ -49,10 +49,10 @@ impl PropertyChunk {
 
 // A chunk, or the run of MARK chunks, of DIIN.
 pub enum InfoChunk {
-    EditedMasterId,
-    Markers,
-    Artist,
-    Title,
+    EditedMasterId, // EMID
+    Markers, // MARK
+    Artist, // DIAR
+    Title, // DITI
 }
 
 impl InfoChunk {
@@ -73,11 +73,11 @@ impl InfoChunk {
 
 // A local chunk of the file.
 pub enum LocalChunk {
-    Property,
-    SoundData,
-    DstIndex,
-    EditedMasterInfo,
-    Comments,
+    Property, // PROP
+    SoundData, // DSD or DST
+    DstIndex, // DSTI
+    EditedMasterInfo, // DIIN
+    Comments, // COMT
 }
 
 impl LocalChunk {
@@ -103,7 +103,7 @@ fn same_id(a: [u8; 4], b: [u8; 4]) -> bool
     (a[0] == b[0]) & (a[1] == b[1]) & (a[2] == b[2]) & (a[3] == b[3])
 }
 
-// Whether a name is one of the nine.
+// Whether a name is one of the nine reserved names.
 pub fn is_reserved(id: [u8; 4]) -> bool
     ensures { λ r. ⌜ r ≡ reserved id ⌝ }
 {

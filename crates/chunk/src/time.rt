@@ -4,13 +4,13 @@ ghost use Rattle.chunk.specs.Append.{Appended};
 ghost use Rattle.chunk.specs.Time.{timeOf, timeBytes};
 use crate::cursor::Cursor;
 
-pub const FRAMES_PER_SECOND: u64 = 75;
+const FRAMES_PER_SECOND: u64 = 75;
 
-pub const FRAMES_PER_MINUTE: u64 = 4_500;
+const FRAMES_PER_MINUTE: u64 = 4_500;
 
-pub const FRAMES_PER_HOUR: u64 = 270_000;
+const FRAMES_PER_HOUR: u64 = 270_000;
 
-pub const SAMPLES_PER_FRAME: u64 = 37_632;
+const SAMPLES_PER_FRAME: u64 = 37_632;
 
 pub struct FrameTime {
     pub hours: u16,
