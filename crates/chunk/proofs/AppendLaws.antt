@@ -5,7 +5,7 @@ use Prim.Native.Nat.{ℕ, suc, _+_, _-_, _^_, _≤_, _<_, min}
 use native.Mathlib.Nat.{add-suc, suc-add, add-zero}
 use native.Mathlib.Decide.{decLt, decLe}
 use native.Mathlib.Omega.{arith}
-use lib.ListN.{length, set, take, drop, length-set, length-append, take-append-drop, drop-of-length-le}
+use lib.ListN.{length, set, take, drop, length-set, length-append, take-append-drop}
 use lib.Seq.{take-all, length-take-le, set-out, sets, sets-eq, paste}
 use Rattle.chunk.specs.Append.{overlay, moved, Appended}
 
@@ -65,6 +65,7 @@ overlay-paste xs a bs n e = go (decLe (a + length bs) (length xs)) (decLe (lengt
         ∙ sym (overlay-front xs a (take n bs) (drop n bs) (omega (arith, fit)))
         ∙ ap (overlay xs a) (take-append-drop n bs)
 
+-- so such a copy is an append
 pub copied : (n : ℕ) {xs ys bs : List ℕ} {a b : ℕ} → length xs < 2 ^ 63 → n ≡ min (length bs) (length xs - a) → ys ≡ paste xs a bs n → b ≡ moved a (length bs)
     → Appended xs a bs ys b
 copied n {xs} {bs} {a} short count stored place = record { short = short; place = place; buffer = stored ∙ overlay-paste xs a bs n count }

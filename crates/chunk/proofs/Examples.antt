@@ -1,9 +1,8 @@
 -- A small file, worked out by the definitions: its bytes, what a reader gets of it, and that a reader of a cut file gets nothing.
 -- Assumes nothing.
 use mathlib.Core.Path.{_≡_, refl}
-use Prim.Native.Nat.{ℕ}
 use mathlib.Core.Bool.{cond, not}
-use mathlib.Core.List.{List, [], _∷_, _++_}
+use mathlib.Core.List.{[], _∷_, _++_}
 use mathlib.Core.Option.{none, some}
 use lib.ListN.{take}
 use Rattle.chunk.specs.Number.{be, num}

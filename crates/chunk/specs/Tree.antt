@@ -8,8 +8,8 @@ use Rattle.chunk.specs.Chunk.{chunk}
 -- or a container, with its first bytes (its form) and the chunks in it, then the others.
 pub data Chunks : Type 0 where
   stop : Chunks
-  leaf : (name content : List ℕ) → Chunks → Chunks
-  node : (name form : List ℕ) → Chunks → Chunks → Chunks
+  leaf : (name : Name) (content : List ℕ) → Chunks → Chunks
+  node : (name : Name) (form : List ℕ) → Chunks → Chunks → Chunks
 
 -- the chunks written out; a container's data is its form and the chunks in it
 unfoldable pub bytes : Chunks → List ℕ

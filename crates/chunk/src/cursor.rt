@@ -43,6 +43,7 @@ impl Cursor {
         self.skip(1)
     }
 
+    // Where all of it fits, the loop's count is the source's length, which the compiler knows of a name and of a number.
     pub fn bytes(self, out: &mut [u8], src: &[u8]) -> Cursor
         ensures { λ r. ⌜ Appended (now (out .entry)) (self .at) (now (src .entry)) (now (out .exit)) (r .at) ⌝ }
     {
