@@ -9,7 +9,7 @@ use Rattle.chunk.specs.Number.{be, num}
 use Rattle.chunk.specs.Name.{ascii, same}
 use Rattle.chunk.specs.Chunk.{pad, chunk, occupied}
 use Rattle.chunk.specs.Tree.{Chunks, stop, leaf, node, bytes}
-use Rattle.chunk.specs.Reader.{Reader, cut, report, within, next, walk-in, walk, read}
+use Rattle.chunk.specs.Reader.{Reader, cut, report, within, first, next, walk-in, walk, read}
 
 -- FRM8 with a chunk of odd size, a chunk that the reader does not know, and FVER
 file : Chunks
@@ -43,9 +43,9 @@ file-read : read reader (bytes file)
           ∷ [];
       end = 62;
     })
-unfolding file reader bytes chunk be num pad occupied same read walk walk-in next within report cut
+unfolding file reader bytes chunk be num pad occupied same read walk walk-in next first within report cut
 file-read = refl
 
 file-cut : read reader (take 61 (bytes file)) ≡ none
-unfolding file reader bytes chunk be num pad occupied same read walk walk-in next within report cut
+unfolding file reader bytes chunk be num pad occupied same read walk walk-in next first within report cut
 file-cut = refl

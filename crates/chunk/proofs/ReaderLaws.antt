@@ -13,7 +13,7 @@ use Rattle.chunk.specs.Number.{be, num}
 use Rattle.chunk.specs.Name.{Name}
 use Rattle.chunk.specs.Chunk.{pad, chunk, occupied}
 use Rattle.chunk.specs.Tree.{Chunks, stop, leaf, node, bytes}
-use Rattle.chunk.specs.Reader.{Reader, Report, Cut, cut, report, within, next, walk-in, walk, reports, Shaped}
+use Rattle.chunk.specs.Reader.{Reader, Report, Cut, cut, report, within, first, next, walk-in, walk, reports, Shaped}
 use Rattle.chunk.proofs.NumberLaws.{length-be, num-be}
 use Rattle.chunk.proofs.ChunkLaws.{length-chunk}
 
@@ -36,17 +36,15 @@ module _ (name content rest : List ℕ) (four : length name ≡ 4) (small : leng
   fits : occupied (length content) ≤ length (chunk name content ++ rest)
   fits = rw (length-append, length-chunk name content four) (omega arith)
 
+  content-read : take (length content) (drop 12 (chunk name content ++ rest)) ≡ content
+  content-read = rw after-size (take-at content _ (length content) refl)
+
+  rest-read : drop (occupied (length content)) (chunk name content ++ rest) ≡ rest
+  rest-read = drop-at (chunk name content) rest _ (length-chunk name content four)
+
   pub cut-chunk : cut (chunk name content ++ rest) ≡ some (record { name = name; content = content; rest = rest })
   unfolding cut
-  cut-chunk =
-      rw (
-        size-read,
-        le-leb _ _ fits,
-        name-read,
-        after-size,
-        take-at content _ (length content) refl,
-        drop-at (chunk name content) rest _ (length-chunk name content four),
-      )
+  cut-chunk = rw (size-read, le-leb _ _ fits) (cc (name-read, content-read, rest-read))
 
 cond-some : {A : Type 0} (b : Bool) (x y : A) → cond b (some x) (some y) ≡ some (cond b x y)
 cond-some true x y = refl
@@ -66,13 +64,13 @@ module _ (r : Reader) where
   step n parent at (b ∷ s) c h e = rw e
 
   -- the walk of a chunk and a tail, from what the chunk and the tail give
-  walk-chunk : (n : ℕ) (parent : Name) (at : ℕ) (name content tail : List ℕ) (first later : List Report)
+  walk-chunk : (n : ℕ) (parent : Name) (at : ℕ) (name content tail : List ℕ) (reported later : List Report)
       → length name ≡ 4 → length content < 2 ^ 64
-      → cond (r .known parent name) (within r (walk-in r n) parent at (record { name = name; content = content; rest = tail }) (r .inner parent name)) (some []) ≡ some first
+      → first r (walk-in r n) parent at (record { name = name; content = content; rest = tail }) ≡ some reported
       → walk-in r n parent (at + occupied (length content)) tail ≡ some (record { reports = later; end = at + occupied (length content) + length tail })
-      → walk-in r (suc n) parent at (chunk name content ++ tail) ≡ some (record { reports = first ++ later; end = at + length (chunk name content ++ tail) })
+      → walk-in r (suc n) parent at (chunk name content ++ tail) ≡ some (record { reports = reported ++ later; end = at + length (chunk name content ++ tail) })
   unfolding next
-  walk-chunk n parent at name content tail first later four small e₁ e₂ =
+  walk-chunk n parent at name content tail reported later four small e₁ e₂ =
       let l = sizes name content tail four in
       step n parent at (chunk name content ++ tail) _ (omega arith) (cut-chunk name content tail four small)
       ∙ rw (e₁, e₂, l .0, add-assoc)
@@ -80,7 +78,7 @@ module _ (r : Reader) where
   -- the law of the walk, for any number of calls above the part's length
   walk-in-bytes : (n : ℕ) (parent : Name) (at : ℕ) (t : Chunks) → Shaped r parent t → length (bytes t) < 2 ^ 64 → length (bytes t) < n
       → walk-in r n parent at (bytes t) ≡ some (record { reports = reports r parent t; end = at + length (bytes t) })
-  unfolding bytes reports walk-in within
+  unfolding bytes reports walk-in first within
   walk-in-bytes zero parent at t w small h = absurd (not-suc-le-zero h)
   walk-in-bytes (suc n) parent at stop w small h = rw add-zero
   walk-in-bytes (suc n) parent at (leaf name content rest) w small h =

@@ -11,7 +11,7 @@ use lib.Dec.{leb}
 use Rattle.chunk.specs.Number.{num}
 use Rattle.chunk.specs.Name.{Name}
 use Rattle.chunk.specs.Chunk.{occupied}
-use Rattle.chunk.specs.Reader.{Reader, Walked, Cut, cut, _>>=_, within, next, walk-in, walk}
+use Rattle.chunk.specs.Reader.{Reader, Walked, Cut, cut, _>>=_, within, first, next, walk-in, walk}
 
 -- what follows a cut depends only on smaller parts
 after-cut : (s : List ℕ) → 0 < length s → (f g : Cut → Option Walked)
@@ -39,7 +39,7 @@ module _ (r : Reader) where
     same-within (some form) = rw (e (c .name) (at + 12 + form) (drop form (c .content)) (simp length-drop (omega arith)))
 
     same-next : length (c .rest) < n → next r v parent at c ≡ next r w parent at c
-    unfolding next
+    unfolding next first
     same-next k = rw (e parent (at + occupied (length (c .content))) (c .rest) k, same-within (r .inner parent (c .name)))
 
   walk-calls : (n m : ℕ) (parent : Name) (at : ℕ) (s : List ℕ) → length s < n → length s < m → walk-in r n parent at s ≡ walk-in r m parent at s

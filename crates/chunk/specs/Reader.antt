@@ -65,12 +65,16 @@ module _ (r : Reader) where
         some (report parent (c .name) (take form (c .content)) ∷ under .reports))
       none
 
-  -- the reports of a part's first chunk, if its name is known, and of the rest
+  -- the reports of a part's first chunk: none if its name is unknown
+  unfoldable pub first : (Name → ℕ → List ℕ → Option Walked) → Name → ℕ → Cut → Option (List Report)
+  first walk parent at c = cond (r .known parent (c .name)) (within walk parent at c (r .inner parent (c .name))) (some [])
+
+  -- the reports of a part's first chunk and of the rest
   unfoldable pub next : (Name → ℕ → List ℕ → Option Walked) → Name → ℕ → Cut → Option Walked
   next walk parent at c = do
-    first ← cond (r .known parent (c .name)) (within walk parent at c (r .inner parent (c .name))) (some [])
+    reported ← first walk parent at c
     later ← walk parent (at + occupied (length (c .content))) (c .rest)
-    some (record { reports = first ++ later .reports; end = later .end })
+    some (record { reports = reported ++ later .reports; end = later .end })
 
   -- The walk of a part that begins at a place, chunk by chunk to the part's end, in at most so many calls.
   unfoldable pub walk-in : ℕ → Name → ℕ → List ℕ → Option Walked
