@@ -1,6 +1,6 @@
 -- The laws of chunks. Assumes nothing.
 use mathlib.Core.Path.{_≡_}
-use mathlib.Core.List.{List, _++_}
+use mathlib.Core.List.{List, [], _∷_, _++_}
 use Prim.Native.Nat.{ℕ, _%_}
 use native.Mathlib.Omega.{arith}
 use lib.ListN.{length, length-append, length-replicate}
@@ -14,6 +14,15 @@ use Rattle.chunk.proofs.AppendLaws.{_then_}
 pub length-pad : (n : ℕ) → length (pad n) ≡ n % 2
 unfolding pad
 length-pad n = length-replicate (n % 2) 0
+
+-- the pad of an odd and of an even size
+pub pad-odd : (n : ℕ) → n % 2 ≡ 1 → pad n ≡ 0 ∷ []
+unfolding pad
+pad-odd n odd = rw odd
+
+pub pad-even : (n : ℕ) → n % 2 ≡ 0 → pad n ≡ []
+unfolding pad
+pad-even n even = rw even
 
 pub length-chunk : (name content : List ℕ) → length name ≡ 4 → length (chunk name content) ≡ occupied (length content)
 unfolding chunk occupied
