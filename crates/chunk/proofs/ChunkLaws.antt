@@ -24,6 +24,11 @@ pub pad-even : (n : ℕ) → n % 2 ≡ 0 → pad n ≡ []
 unfolding pad
 pad-even n even = rw even
 
+-- sizes that are both odd or both even have the same pad
+pub pad-parity : (m n : ℕ) → m % 2 ≡ n % 2 → pad m ≡ pad n
+unfolding pad
+pad-parity m n same = rw same
+
 pub length-chunk : (name content : List ℕ) → length name ≡ 4 → length (chunk name content) ≡ occupied (length content)
 unfolding chunk occupied
 length-chunk name content four = simp (length-append, length-be, length-pad) (omega arith)

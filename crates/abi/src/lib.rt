@@ -1,0 +1,3 @@
+// The library for programs in other languages: numbers and plain slices, and nothing worked out here. A slice is a pointer and the number of
+// its elements.
+pub mod text; // text.rt: converted texts, DIAR and DITI, COMT

@@ -1,0 +1,126 @@
+// Texts. A text is `length` values of `pool` from `start` on. What is written into `out` is what fits of it; the answer is the length of all of it.
+ghost use mathlib.Core.Path.{_≡_};
+ghost use Rattle.chunk.specs.Append.{Appended};
+ghost use Rattle.chunk.specs.Extent.{part};
+ghost use Rattle.chunk.specs.Text.{textBytes};
+ghost use Rattle.chunk.specs.DiinText.{diinText};
+ghost use Rattle.chunk.specs.Comment.{comt};
+ghost use Rattle.abi.specs.Text.{ruleOf, optionsOf, textOf};
+use chunk::Cursor;
+use chunk::diin_text::Text;
+use chunk::extent::Extent;
+use chunk::text::TextOptions;
+use chunk::text::TextRule;
+
+// 0 replaces by a byte, 1 removes, any other is D2.
+fn rule(number: u8, replacement: u8) -> TextRule
+    ensures { λ r. ⌜ r ≡ ruleOf number replacement ⌝ }
+{
+    if number == 0 {
+        return TextRule::Replace(replacement);
+    }
+    if number == 1 {
+        return TextRule::Remove;
+    }
+    TextRule::D2
+}
+
+fn options(
+    rule_number: u8,
+    replacement: u8,
+    empty_text: bool,
+    text_pad_counted: bool,
+) -> TextOptions
+    ensures { λ r. ⌜ r ≡ optionsOf «rule_number» replacement «empty_text» «text_pad_counted» ⌝ }
+{
+    TextOptions {
+        rule: rule(rule_number, replacement),
+        empty_text: empty_text,
+        text_pad_counted: text_pad_counted,
+    }
+}
+
+// A text that may be missing.
+fn text(given: bool, start: u32, length: u32) -> Text
+    ensures { λ r. ⌜ r ≡ textOf given start length ⌝ }
+{
+    if given {
+        return Text::Given(Extent {
+            start: start,
+            length: length,
+        });
+    }
+    Text::Absent
+}
+
+// A text's bytes.
+#[no_mangle]
+pub extern "C" fn jangqeruz_text_bytes(
+    out: &mut [u8],
+    pool: &[u32],
+    start: u32,
+    length: u32,
+    rule_number: u8,
+    replacement: u8,
+) -> usize
+    ensures { λ r. ⌜ Appended (now (out .entry)) 0 (textBytes (ruleOf «rule_number» replacement) (part (now (pool .entry)) (record { start = start; length = length }))) (now (out .exit)) r ⌝ }
+{
+    let c = Cursor::new();
+    let end = c.text_bytes(
+        out,
+        rule(rule_number, replacement),
+        pool,
+        Extent {
+            start: start,
+            length: length,
+        },
+    );
+    end.at
+}
+
+// DIAR or DITI, by its name.
+#[no_mangle]
+pub extern "C" fn jangqeruz_diin_text(
+    out: &mut [u8],
+    id: &[u8; 4],
+    pool: &[u32],
+    given: bool,
+    start: u32,
+    length: u32,
+    rule_number: u8,
+    replacement: u8,
+    empty_text: bool,
+    text_pad_counted: bool,
+) -> usize
+    ensures { λ r. ⌜ Appended (now (out .entry)) 0
+        (diinText (now (id .entry)) (now (pool .entry)) (textOf given start length)
+        (optionsOf «rule_number» replacement «empty_text» «text_pad_counted»))
+        (now (out .exit)) r ⌝ }
+{
+    let options = options(rule_number, replacement, empty_text, text_pad_counted);
+    let c = Cursor::new();
+    let end = c.diin_text(out, *id, pool, text(given, start, length), options);
+    end.at
+}
+
+// COMT, of rows of nine words.
+#[no_mangle]
+pub extern "C" fn jangqeruz_comt(
+    out: &mut [u8],
+    pool: &[u32],
+    rows: &[u32],
+    rule_number: u8,
+    replacement: u8,
+    empty_text: bool,
+    text_pad_counted: bool,
+) -> usize
+    ensures { λ r. ⌜ Appended (now (out .entry)) 0
+        (comt (now (pool .entry)) (now (rows .entry))
+        (optionsOf «rule_number» replacement «empty_text» «text_pad_counted»))
+        (now (out .exit)) r ⌝ }
+{
+    let options = options(rule_number, replacement, empty_text, text_pad_counted);
+    let c = Cursor::new();
+    let end = c.comt(out, pool, rows, options);
+    end.at
+}

@@ -1,0 +1,43 @@
+-- The laws of DIAR and DITI. Assumes nothing.
+use mathlib.Core.Path.{_≡_}
+use mathlib.Core.Bool.{Bool, true, false, cond}
+use mathlib.Core.List.{List, [], _++_, append-assoc, append-nil}
+use Prim.Native.Nat.{ℕ, _+_, _%_, _≤_}
+use native.Mathlib.Omega.{arith}
+use lib.ListN.{length, length-append}
+use Rattle.chunk.specs.Number.{be}
+use Rattle.chunk.specs.Name.{Name}
+use Rattle.chunk.specs.Chunk.{pad, chunk}
+use Rattle.chunk.specs.Text.{textPad, counts}
+use Rattle.chunk.specs.DiinText.{diinTextData}
+use Rattle.chunk.specs.declared.text.TextOptions.{TextOptions}
+use Rattle.chunk.proofs.ChunkLaws.{length-pad, pad-even, pad-parity}
+use Rattle.chunk.proofs.TextLaws.{length-counts}
+
+-- the data of a text, with the pad in it or without it
+abbrev content : List ℕ → Bool → List ℕ
+content text padCounted = counts 4 [] text ++ cond padCounted (pad (length text)) []
+
+length-content : (text : List ℕ) (b : Bool) → length (content text b) ≡ 4 + length text + cond b (length text % 2) 0
+length-content text true = simp (length-append, length-counts, length-pad)
+length-content text false = simp (length-append, length-counts)
+
+-- the data has room for a count, a text and a pad
+pub length-diin-text : (text : List ℕ) (o : TextOptions) → length (diinTextData text o) ≤ 5 + length text
+unfolding diinTextData textPad
+length-diin-text text o = go (o .«text_pad_counted»)
+  where
+    go : (b : Bool) → length (content text b) ≤ 5 + length text
+    go true = omega (arith, length-content text true)
+    go false = omega (arith, length-content text false)
+
+-- With the pad counted or not, the bytes are the same but for the size, which counts it or not.
+pub diin-text-bytes : (name : Name) (text : List ℕ) (o : TextOptions)
+    → chunk name (diinTextData text o)
+    ≡ name ++ be 8 (4 + length text + cond (o .«text_pad_counted») (length text % 2) 0) ++ be 4 (length text) ++ text ++ pad (length text)
+unfolding chunk diinTextData textPad counts
+diin-text-bytes name text o = go (o .«text_pad_counted»)
+  where
+    go : (b : Bool) → chunk name (content text b) ≡ name ++ be 8 (4 + length text + cond b (length text % 2) 0) ++ be 4 (length text) ++ text ++ pad (length text)
+    go true = rw (length-content text true, pad-even (4 + length text + length text % 2) (omega arith)) (simp (append-assoc, append-nil))
+    go false = rw (length-content text false, pad-parity (4 + length text + 0) (length text) (omega arith)) (simp (append-assoc, append-nil))

@@ -1,0 +1,16 @@
+-- `Cursor::comt_data` meets its contract. Assumes nothing.
+use borrow.Author.Needs.{needs}
+use Rattle.chunk.proofs.AppendLaws.{_then_}
+use Rattle.chunk.proofs.cursor.Cursor.comt_data.Statement.{statement}
+use Rattle.chunk.proofs.cursor.Cursor.comt_data.Tie as tie
+
+returns : tie.Need-returns
+returns c =
+    let c₂ = c .before .before in
+    let c₁ = c₂ .before .before .before .before in
+    (c₁ .be16 .ensures then c₂ .comments .ensures .0, c₂ .comments .ensures .1)
+
+pub comt-data-spec : {M : Type 1} → statement M
+comt-data-spec =
+    tie.close
+    (tie.spec (λ c κs. tt) (λ c κs. tt) (λ c. search needs) returns)

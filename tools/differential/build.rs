@@ -1,0 +1,18 @@
+//! Links the static library that the environment variable DIFFERENTIAL_LIBRARY names.
+
+use std::env;
+use std::path::Path;
+
+fn main() {
+    println!("cargo::rerun-if-changed=build.rs");
+    println!("cargo::rerun-if-env-changed=DIFFERENTIAL_LIBRARY");
+    let library = env::var("DIFFERENTIAL_LIBRARY").unwrap_or_default();
+    let path = Path::new(&library);
+    let (Some(folder), Some(name), true) = (path.parent(), path.file_name(), path.is_absolute()) else {
+        println!("cargo::error=DIFFERENTIAL_LIBRARY must name the static library by its full path");
+        return;
+    };
+    println!("cargo::rerun-if-changed={library}");
+    println!("cargo::rustc-link-search=native={}", folder.display());
+    println!("cargo::rustc-link-lib=static:+verbatim={}", name.to_string_lossy());
+}

@@ -1,0 +1,165 @@
+//! The original: a process that reads cases and answers each in turn.
+
+use std::io::{self, BufRead, BufReader, Write};
+use std::mem;
+use std::panic;
+use std::path::Path;
+use std::process::{Child, ChildStdin, ChildStdout, Command, Stdio};
+use std::sync::mpsc;
+use std::thread;
+
+/// A batch is sent when its text has this many bytes.
+const BATCH_BYTES: usize = 1 << 16;
+
+/// The answer to a case: its name, and the lines between `case NAME` and `end`.
+pub struct Answer {
+    name: String,
+    lines: Vec<String>,
+}
+
+impl Answer {
+    /// How long the answer is.
+    pub fn bytes(&self) -> usize {
+        self.lines.iter().map(String::len).sum()
+    }
+
+    /// The header of an accepted build.
+    pub fn header(&self) -> Result<Vec<u8>, String> {
+        let name = &self.name;
+        match self.lines.first() {
+            Some(line) if line.starts_with("accepted ") => {}
+            line => return Err(format!("case {name} was not accepted: {line:?}")),
+        }
+        let words = self.lines.iter().find_map(|line| line.strip_prefix("header "));
+        words.and_then(counted_hex).ok_or_else(|| format!("the answer to case {name} has no good header"))
+    }
+}
+
+/// The bytes of `LENGTH HEX`.
+fn counted_hex(words: &str) -> Option<Vec<u8>> {
+    let (length, digits) = words.split_once(' ')?;
+    let digits = if digits == "." { "" } else { digits };
+    let digit = |byte: u8| char::from(byte).to_digit(16).map(|digit| digit as u8);
+    let bytes = digits
+        .as_bytes()
+        .chunks(2)
+        .map(|pair| Some(digit(pair[0])? << 4 | digit(*pair.get(1)?)?))
+        .collect::<Option<Vec<u8>>>()?;
+    (length.parse() == Ok(bytes.len())).then_some(bytes)
+}
+
+pub struct Original {
+    process: Child,
+    input: ChildStdin,
+    output: BufReader<ChildStdout>,
+}
+
+impl Original {
+    pub fn start(program: &Path) -> Result<Original, String> {
+        let mut process = Command::new(program)
+            .stdin(Stdio::piped())
+            .stdout(Stdio::piped())
+            .spawn()
+            .map_err(|e| format!("{}: {e}", program.display()))?;
+        let (Some(input), Some(output)) = (process.stdin.take(), process.stdout.take()) else {
+            return Err("the original has no pipes".into());
+        };
+        Ok(Original { process, input, output: BufReader::new(output) })
+    }
+
+    /// The answer to one case. The original reads a case to its end before it answers.
+    pub fn ask(&mut self, name: &str, lines: &str) -> Result<Answer, String> {
+        let written = self.input.write_all(case_text(name, lines).as_bytes());
+        written.map_err(|e| format!("writing to the original: {e}"))?;
+        read_answer(&mut self.output, name)
+    }
+
+    /// Asks cases, given with their lines, and hands each with its number and answer to `take`. One thread writes and
+    /// this one reads. A batch is handed over before it is written: so this thread reads answers as long as any are
+    /// due, and neither process waits for the other.
+    pub fn ask_all<C: Send>(
+        &mut self,
+        cases: impl Iterator<Item = (C, String)> + Send,
+        mut take: impl FnMut(u64, C, Answer) -> Result<(), String>,
+    ) -> Result<(), String> {
+        let Original { process, input, output } = self;
+        let (sender, receiver) = mpsc::sync_channel(2);
+        thread::scope(|scope| {
+            let writer = scope.spawn(move || write_batches(cases, input, &sender));
+            let mut taken = Ok(());
+            for (number, case) in receiver.into_iter().flatten() {
+                let answer = read_answer(output, &format!("{number}"));
+                taken = answer.and_then(|answer| take(number, case, answer));
+                if taken.is_err() {
+                    break;
+                }
+            }
+            if taken.is_err() {
+                // So that the writer does not wait for a process that waits for this thread.
+                let _ = process.kill();
+            }
+            match writer.join() {
+                Ok(written) => taken.and(written.map_err(|e| format!("writing to the original: {e}"))),
+                Err(cause) => panic::resume_unwind(cause),
+            }
+        })
+    }
+}
+
+impl Drop for Original {
+    fn drop(&mut self) {
+        let _ = self.process.kill();
+        let _ = self.process.wait();
+    }
+}
+
+fn case_text(name: &str, lines: &str) -> String {
+    format!("case {name}\n{lines}end\n")
+}
+
+/// Sends the numbered cases on in batches, and writes each batch's text. Ends early if nobody receives.
+fn write_batches<C>(
+    cases: impl Iterator<Item = (C, String)>,
+    input: &mut ChildStdin,
+    sender: &mpsc::SyncSender<Vec<(u64, C)>>,
+) -> io::Result<()> {
+    let mut batch = Vec::new();
+    let mut text = String::new();
+    let mut cases = (0u64..).zip(cases).peekable();
+    while let Some((number, (case, lines))) = cases.next() {
+        batch.push((number, case));
+        text += &case_text(&format!("{number}"), &lines);
+        if text.len() >= BATCH_BYTES || cases.peek().is_none() {
+            if sender.send(mem::take(&mut batch)).is_err() {
+                return Ok(());
+            }
+            input.write_all(text.as_bytes())?;
+            text.clear();
+        }
+    }
+    Ok(())
+}
+
+/// The next answer, which must be to the case of this name.
+fn read_answer(output: &mut impl BufRead, name: &str) -> Result<Answer, String> {
+    let mut next_line = || {
+        let mut line = String::new();
+        match output.read_line(&mut line) {
+            Ok(0) => Err(format!("the original ended without an answer to case {name}")),
+            Ok(_) => Ok(line.trim_end().to_owned()),
+            Err(e) => Err(format!("reading the original's answer to case {name}: {e}")),
+        }
+    };
+    let line = next_line()?;
+    if line.strip_prefix("case ") != Some(name) {
+        return Err(format!("an answer to case {name} was expected, not {line:?}"));
+    }
+    let mut lines = Vec::new();
+    loop {
+        let line = next_line()?;
+        if line == "end" {
+            return Ok(Answer { name: name.into(), lines });
+        }
+        lines.push(line);
+    }
+}
