@@ -1,5 +1,6 @@
 // Works out the figures of document 01 and prints them; the file stdout holds what they must be.
 mod chunks; // chunks.rt: numbers, chunks, frame times, names
+mod text; // text.rt: converted texts, DIAR and DITI, COMT
 mod print; // print.rt: lines of text, numbers and bytes
 
 fn main() {
@@ -8,4 +9,5 @@ fn main() {
     chunks::chunks();
     chunks::short_buffers();
     chunks::names();
+    text::cases();
 }

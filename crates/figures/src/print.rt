@@ -23,6 +23,15 @@ pub fn bytes(s: &[u8]) {
     text(b"\n");
 }
 
+// A line of the first n bytes, or of all if there are fewer.
+pub fn front(s: &[u8], n: usize) {
+    if n <= s.len() {
+        bytes(&s[0..n]);
+        return;
+    }
+    bytes(s);
+}
+
 pub fn yes_or_no(yes: bool) {
     if yes {
         text(b" yes\n");
