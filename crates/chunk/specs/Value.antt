@@ -14,14 +14,14 @@ use Rattle.chunk.specs.Comment.{Written}
 use Rattle.chunk.specs.Reader.{Reader}
 
 -- whether a chunk has this name under this parent
-abbrev is : String.String → String.String → Name → Name → Bool
-is p n parent name = same parent (ascii p) && same name (ascii n)
+abbrev pub named : String.String → String.String → Name → Name → Bool
+named p n parent name = same parent (ascii p) && same name (ascii n)
 
 -- the length of a container's form
 unfoldable pub inner : Name → Name → Option ℕ
 inner parent name =
-    cond (is "" "FRM8" parent name || is "FRM8" "PROP" parent name) (some 4)
-    (cond (is "FRM8" "DST " parent name || is "FRM8" "DIIN" parent name) (some 0) none)
+    cond (named "" "FRM8" parent name || named "FRM8" "PROP" parent name) (some 4)
+    (cond (named "FRM8" "DST " parent name || named "FRM8" "DIIN" parent name) (some 0) none)
 
 -- data that ends in a text, whose count of w bytes stands at a place: without the pad after the text
 unfoldable pub counted : ℕ → ℕ → List ℕ → List ℕ
@@ -37,10 +37,10 @@ comments (suc n) content =
 -- the value of a chunk's data
 unfoldable pub value : Name → Name → List ℕ → List ℕ
 value parent name content =
-    cond (is "PROP" "CMPR" parent name) (counted 4 1 content)
-    (cond (is "DIIN" "DIAR" parent name || is "DIIN" "DITI" parent name) (counted 0 4 content)
-    (cond (is "DIIN" "MARK" parent name) (counted 18 4 content)
-    (cond (is "FRM8" "COMT" parent name) (take 2 content ++ comments (num (take 2 content)) (drop 2 content)) content)))
+    cond (named "PROP" "CMPR" parent name) (counted 4 1 content)
+    (cond (named "DIIN" "DIAR" parent name || named "DIIN" "DITI" parent name) (counted 0 4 content)
+    (cond (named "DIIN" "MARK" parent name) (counted 18 4 content)
+    (cond (named "FRM8" "COMT" parent name) (take 2 content ++ comments (num (take 2 content)) (drop 2 content)) content)))
 
 -- the reader that knows some names
 abbrev pub dsdiff : (Name → Name → Bool) → Reader

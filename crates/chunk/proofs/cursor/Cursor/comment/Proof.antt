@@ -1,6 +1,11 @@
 -- `Cursor::comment` meets its contract. Assumes nothing.
 use Rattle.chunk.proofs.AppendLaws.{_then_}
+use mathlib.Core.List.{_++_}
 use borrow.Author.Needs.{needs}
+use denote.Ref.{now}
+use Rattle.chunk.specs.Number.{be}
+use Rattle.chunk.specs.Extent.{part}
+use Rattle.chunk.specs.Text.{textBytes}
 use Rattle.chunk.proofs.cursor.Cursor.comment.Statement.{statement}
 use Rattle.chunk.proofs.cursor.Cursor.comment.Tie as tie
 
@@ -10,7 +15,9 @@ returns c =
     let c₂ = c₃ .before .before .before .before in
     let c₁ = c₂ .before .before .before .before in
     let head = rw (c₁ .before .before .before .comment-head .ensures) at (c₁ .bytes .ensures) in
-    head then c₂ .counted-text .ensures then c₃ .pad .ensures
+    let args = c₁ .before .before .before .before .before .before .before .args in
+    let counted = be 4 (args .count) ++ textBytes (args .rule) (part (now (args .pool)) (args .c .text)) in
+    _then_ {cs = counted} head (c₂ .counted-text .ensures) then c₃ .pad .ensures
 
 pub comment-spec : {M : Type 1} → statement M
 comment-spec =

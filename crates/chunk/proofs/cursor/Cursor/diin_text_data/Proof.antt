@@ -1,6 +1,11 @@
 -- `Cursor::diin_text_data` meets its contract. Assumes nothing.
 use Rattle.chunk.proofs.AppendLaws.{_then_}
+use mathlib.Core.List.{_++_}
 use borrow.Author.Needs.{needs}
+use denote.Ref.{now}
+use Rattle.chunk.specs.Number.{be}
+use Rattle.chunk.specs.Extent.{part}
+use Rattle.chunk.specs.Text.{textBytes}
 use Rattle.chunk.proofs.cursor.Cursor.diin_text_data.Statement.{statement}
 use Rattle.chunk.proofs.cursor.Cursor.diin_text_data.Tie as tie
 
@@ -8,7 +13,9 @@ returns : tie.Need-returns
 returns c =
     let c₂ = c .before .before in
     let c₁ = c₂ .before .before .before .before in
-    c₁ .counted-text .ensures then c₂ .text-pad .ensures
+    let args = c₁ .before .before .before .before .args in
+    let counted = be 4 (args .count) ++ textBytes (args .options .rule) (part (now (args .pool)) (args .text)) in
+    _then_ {bs = counted} (c₁ .counted-text .ensures) (c₂ .text-pad .ensures)
 
 pub diin-text-data-spec : {M : Type 1} → statement M
 diin-text-data-spec =
