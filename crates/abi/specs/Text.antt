@@ -1,6 +1,6 @@
 -- What the numbers of the exported text functions mean. Assumes nothing.
 use Prim.Native.Nat.{ℕ}
-use mathlib.Core.Bool.{Bool, true, false, cond}
+use mathlib.Core.Bool.{Bool, cond}
 use lib.Dec.{eqb}
 use Rattle.chunk.specs.declared.text.TextRule.{TextRule}
 use Rattle.chunk.specs.declared.text.TextRule.the-variants.{Replace, Remove, D2}

@@ -1,5 +1,5 @@
 -- The laws of comments. Assumes nothing.
-use mathlib.Core.Path.{_≡_, refl, sym, _∙_}
+use mathlib.Core.Path.{_≡_, sym, _∙_}
 use mathlib.Core.Bool.{Bool, true, false, cond, true≢false, and-false}
 use mathlib.Core.List.{List, [], _∷_, _++_, flatMap}
 use Prim.Native.Nat.{ℕ, zero, suc, _+_, _-_, _*_, _/_, _^_, _≤_, _<_}
@@ -8,17 +8,16 @@ use native.Mathlib.Decide.{decLe}
 use native.Mathlib.Omega.{arith}
 use borrow.Author.Tests.{lt-leb}
 use lib.ListN.{length, take, drop, getD, length-take, length-drop, length-append}
-use lib.Seq.{take-all, getD-take, getD-drop, length-take-le}
+use lib.Seq.{take-all, getD-take, getD-drop}
 use Rattle.chunk.specs.Number.{be}
-use Rattle.chunk.specs.Chunk.{pad}
-use Rattle.chunk.specs.Extent.{part, firstRows, rows}
-use Rattle.chunk.specs.Text.{textBytes, isWritten, counts}
+use Rattle.chunk.specs.Extent.{firstRows, rows}
+use Rattle.chunk.specs.Text.{isWritten}
 use Rattle.chunk.specs.Comment.{commentOf, commentHead, Written, asWritten, writtenComment, writtenComments, commentBytes, comtData, hasComt}
 use Rattle.chunk.specs.declared.text.TextOptions.{TextOptions}
 use Rattle.chunk.specs.declared.comt.Comment.{Comment}
 use Rattle.chunk.proofs.NumberLaws.{length-be}
 use Rattle.chunk.proofs.ChunkLaws.{length-pad}
-use Rattle.chunk.proofs.ListLaws.{flatMap-append, flatMap-one, flatMap-take, flatMap-bound}
+use Rattle.chunk.proofs.ListLaws.{flatMap-take, flatMap-bound}
 use Rattle.chunk.proofs.ExtentLaws.{length-rows, get-rows}
 use Rattle.chunk.proofs.TextLaws.{extent-short, length-counts}
 

@@ -11,11 +11,10 @@ use Rattle.chunk.specs.Extent.{part, firstRows, rows}
 use Rattle.chunk.specs.Text.{printable, latin1, passes, substitute, textByte, textBytes, textPad, isWritten, counts}
 use Rattle.chunk.specs.DiinText.{diinTextData, givenText, diinText}
 use Rattle.chunk.specs.Comment.{commentOf, referenceOf, commentHead, asWritten, writtenComment, writtenComments, commentBytes, comtData, hasComt, comt}
-use Rattle.chunk.specs.Value.{counted, comments, value}
-use Rattle.chunk.specs.declared.text.TextRule.{TextRule}
+use Rattle.chunk.specs.Value.{comments, value}
 use Rattle.chunk.specs.declared.text.TextRule.the-variants.{Replace, Remove, D2}
 use Rattle.chunk.specs.declared.text.TextOptions.{TextOptions}
-use Rattle.chunk.specs.declared.diin_text.Text.the-variants.{Absent, Given}
+use Rattle.chunk.specs.declared.diin_text.Text.the-variants.{Given}
 
 -- values at each limit
 edges : List ℕ

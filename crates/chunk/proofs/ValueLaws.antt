@@ -1,24 +1,22 @@
 -- The reader's value of data that holds counted texts is the data without the pads. Assumes nothing.
 use mathlib.Core.Path.{_≡_, refl, ap, _∙_}
-use mathlib.Core.Bool.{Bool, true, false, cond, _||_}
+use mathlib.Core.Bool.{true, _||_}
 use mathlib.Core.List.{List, [], _∷_, _++_, flatMap, append-assoc}
-use Prim.Native.Nat.{ℕ, zero, suc, _+_, _/_, _%_, _^_, _<_, _≤_}
+use Prim.Native.Nat.{ℕ, _+_, _%_, _^_, _<_}
 use native.Mathlib.Omega.{arith}
 use lib.ListN.{length, take, drop, getD, length-append}
-use lib.Seq.{take-at, drop-at, getD-take, getD-drop}
+use lib.Seq.{take-at, drop-at}
 use Rattle.chunk.specs.Number.{be, num}
 use Rattle.chunk.specs.Name.{Name, ascii, same}
 use Rattle.chunk.specs.Chunk.{pad}
-use Rattle.chunk.specs.Extent.{part, firstRows, rows}
-use Rattle.chunk.specs.Text.{textBytes, isWritten, counts}
+use Rattle.chunk.specs.Text.{counts}
 use Rattle.chunk.specs.DiinText.{diinTextData}
-use Rattle.chunk.specs.Comment.{commentOf, Written, asWritten, writtenComment, writtenComments, commentBytes, comtData, hasComt}
+use Rattle.chunk.specs.Comment.{Written, writtenComments, commentBytes, comtData, hasComt}
 use Rattle.chunk.specs.Value.{counted, comments, value, diinTextValue, comtValue}
 use Rattle.chunk.specs.declared.text.TextOptions.{TextOptions}
-use Rattle.chunk.specs.declared.extent.Extent.{Extent}
 use Rattle.chunk.proofs.NumberLaws.{length-be, num-be}
 use Rattle.chunk.proofs.ChunkLaws.{length-pad}
-use Rattle.chunk.proofs.TextLaws.{extent-short, length-counts}
+use Rattle.chunk.proofs.TextLaws.{length-counts}
 use Rattle.chunk.proofs.CommentLaws.{Fits, comments-fit, comt-count}
 
 -- a counted text, whatever follows it

@@ -1,6 +1,7 @@
 // Works out the figures of document 01 and prints them; the file stdout holds what they must be.
 mod chunks; // chunks.rt: numbers, chunks, frame times, names
 mod text; // text.rt: converted texts, DIAR and DITI, COMT
+mod text_cases; // text_cases.rt: their pools and comments
 mod print; // print.rt: lines of text, numbers and bytes
 
 fn main() {

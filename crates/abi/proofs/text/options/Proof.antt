@@ -1,5 +1,4 @@
 -- `text::options` meets its contract. Assumes nothing.
-use borrow.Author.Needs.{needs}
 use Rattle.abi.proofs.text.options.Statement.{statement}
 use Rattle.abi.proofs.text.options.Tie as tie
 

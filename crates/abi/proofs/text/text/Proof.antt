@@ -1,5 +1,4 @@
 -- `text::text` meets its contract. Assumes nothing.
-use borrow.Author.Needs.{needs}
 use Rattle.abi.proofs.text.text.Statement.{statement}
 use Rattle.abi.proofs.text.text.Tie as tie
 
