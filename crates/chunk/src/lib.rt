@@ -1,4 +1,4 @@
-// The chunk layer of DSDIFF: everything that is a chunk, and nothing that is a field of one.
+// The chunk layer of DSDIFF: chunks and names, texts, and the chunks that are made of texts.
 pub mod cursor; // cursor.rt: the writing cursor, its bytes and names
 pub mod numbers; // numbers.rt: big-endian numbers
 pub mod chunks; // chunks.rt: chunk heads, pads, whole chunks, and what a chunk occupies
