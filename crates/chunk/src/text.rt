@@ -108,6 +108,7 @@ impl Cursor {
         self
     }
 
+    // The bytes of values, one value after the other.
     fn text_values(self, out: &mut [u8], rule: TextRule, values: &[u32]) -> Cursor
         ensures { λ r. ⌜ Appended (now (out .entry)) (self .at) (textBytes rule (now (values .entry))) (now (out .exit)) (r .at) ⌝ }
     {

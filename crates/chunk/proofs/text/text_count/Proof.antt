@@ -8,20 +8,17 @@ use Rattle.chunk.proofs.TextLaws.{extent-short}
 use Rattle.chunk.proofs.text.text_count.Statement.{statement}
 use Rattle.chunk.proofs.text.text_count.Tie as tie
 
-cast-result : tie.Need-cast-result
-cast-result c =
-    let c₁ = c .before .before in
-    let start = c₁ .before .before .before .before in
-    let short = extent-short (start .args .rule) (now (start .args .pool)) (start .args .text) in
-    let count = measured (rw (c₁ .before .before .new .ensures) at (c₁ .text-bytes .ensures)) (omega (arith, short)) in
-    search needs
-
 returns : tie.Need-returns
 returns c =
     let c₁ = c .before .before in
     let start = c₁ .before .before .before .before in
     let short = extent-short (start .args .rule) (now (start .args .pool)) (start .args .text) in
     sym (measured (rw (c₁ .before .before .new .ensures) at (c₁ .text-bytes .ensures)) (omega (arith, short)))
+
+cast-result : tie.Need-cast-result
+cast-result c =
+    let start = c .before .before .before .before .before .before in
+    omega (arith, returns c, extent-short (start .args .rule) (now (start .args .pool)) (start .args .text))
 
 pub text-count-spec : {M : Type 1} → statement M
 text-count-spec =
