@@ -1,4 +1,4 @@
-//! Calls of a function that writes into a buffer and answers how many bytes the whole has.
+//! Calls of a function that writes into a buffer and answers how many bytes the whole has, or how many it filled.
 
 use crate::hex;
 use crate::random::Random;
@@ -72,4 +72,37 @@ pub fn hold(
         differs("empty buffer", format!("expected: {}", full.answer), &empty);
     }
     found
+}
+
+/// Holds a read into `room` bytes: it should fill as many as the original did, and leave the rest.
+pub fn hold_read(
+    what: String,
+    told: &str,
+    original: &[u8],
+    room: usize,
+    function: impl Fn(&mut [u8]) -> usize,
+) -> Option<Disagreement> {
+    let call = call(room, 16, &function);
+    let same = call.answer == original.len() && call.written() == original && call.touched.is_none();
+    (!same).then(|| Disagreement {
+        what,
+        expected: format!("{told}; the original: {} {}", original.len(), hex(original)),
+        ours: call.told(),
+    })
+}
+
+/// Holds a read that is wrongly lent: the answer should be the largest `usize`, and all of `room` bytes should stay.
+pub fn hold_refused(
+    what: String,
+    told: &str,
+    room: usize,
+    function: impl Fn(&mut [u8]) -> usize,
+) -> Option<Disagreement> {
+    let call = call(room, 16, &function);
+    let stays = call.lent.iter().all(|&byte| byte == UNTOUCHED) && call.touched.is_none();
+    (call.answer != usize::MAX || !stays).then(|| Disagreement {
+        what,
+        expected: format!("{told}; expected: {}, and nothing written", usize::MAX),
+        ours: call.told(),
+    })
 }

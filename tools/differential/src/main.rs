@@ -9,6 +9,7 @@ mod original;
 #[allow(unsafe_code)]
 mod ours;
 mod random;
+mod sound;
 mod subject;
 mod text;
 
@@ -44,7 +45,7 @@ fn main() -> ExitCode {
         eprintln!("{USAGE}");
         return ExitCode::from(2);
     };
-    let subjects = [subject::run::<text::Text>];
+    let subjects = [subject::run::<text::Text>, subject::run::<sound::Sound>];
     let mut agreed = true;
     for run in subjects {
         match run(&program, seed, count) {

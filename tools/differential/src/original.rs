@@ -2,6 +2,7 @@
 
 use std::io::{self, BufRead, BufReader, Write};
 use std::mem;
+use std::ops::Range;
 use std::panic;
 use std::path::Path;
 use std::process::{Child, ChildStdin, ChildStdout, Command, Stdio};
@@ -30,14 +31,75 @@ impl Answer {
             Some(line) if line.starts_with("accepted ") => {}
             line => return Err(format!("case {name} was not accepted: {line:?}")),
         }
-        let words = self.lines.iter().find_map(|line| line.strip_prefix("header "));
-        words.and_then(counted_hex).ok_or_else(|| format!("the answer to case {name} has no good header"))
+        self.part("header", counted_hex)
     }
+
+    /// The length of the sound.
+    pub fn sound(&self) -> Result<u64, String> {
+        self.part("sound", |words| words.parse().ok())
+    }
+
+    /// What follows the sound.
+    pub fn trailer(&self) -> Result<Vec<u8>, String> {
+        self.part("trailer", counted_hex)
+    }
+
+    /// The answers to the queries, in order.
+    pub fn queries(&self) -> Result<Vec<Query>, String> {
+        self.parts("query", |words| {
+            let [offset, length, first, end] = words.split(' ').collect::<Vec<_>>().try_into().ok()?;
+            let positions = first.parse().ok()?..end.parse().ok()?;
+            Some(Query { offset: offset.parse().ok()?, length: length.parse().ok()?, positions })
+        })
+    }
+
+    /// The answers to the reads, in order.
+    pub fn reads(&self) -> Result<Vec<Read>, String> {
+        self.parts("read", |words| {
+            let [offset, length, digits, "filled", filled] = words.split(' ').collect::<Vec<_>>()[..] else {
+                return None;
+            };
+            let bytes = bytes(length, digits)?;
+            Some(Read { offset: offset.parse().ok()?, bytes, filled: filled.parse().ok()? })
+        })
+    }
+
+    /// What the line of this key says.
+    fn part<T>(&self, key: &str, read: impl Fn(&str) -> Option<T>) -> Result<T, String> {
+        let part = self.parts(key, read)?.pop();
+        part.ok_or_else(|| format!("the answer to case {} has no {key}", self.name))
+    }
+
+    /// What the lines of this key say.
+    fn parts<T>(&self, key: &str, read: impl Fn(&str) -> Option<T>) -> Result<Vec<T>, String> {
+        let lines = self.lines.iter().filter_map(|line| line.strip_prefix(key)?.strip_prefix(' '));
+        let parts = lines.map(read).collect::<Option<Vec<T>>>();
+        parts.ok_or_else(|| format!("the answer to case {} has no good {key}", self.name))
+    }
+}
+
+/// The positions that a stretch of the file needs, 0 to 0 for none.
+pub struct Query {
+    pub offset: u64,
+    pub length: u64,
+    pub positions: Range<usize>,
+}
+
+/// A read of the file: its whole buffer, of which so many bytes are filled.
+pub struct Read {
+    pub offset: u64,
+    pub bytes: Vec<u8>,
+    pub filled: u64,
 }
 
 /// The bytes of `LENGTH HEX`.
 fn counted_hex(words: &str) -> Option<Vec<u8>> {
     let (length, digits) = words.split_once(' ')?;
+    bytes(length, digits)
+}
+
+/// So many bytes, in hexadecimal digits.
+fn bytes(length: &str, digits: &str) -> Option<Vec<u8>> {
     let digits = if digits == "." { "" } else { digits };
     let digit = |byte: u8| char::from(byte).to_digit(16).map(|digit| digit as u8);
     let bytes = digits

@@ -1,7 +1,10 @@
 //! This repository's functions, from the static library: the declarations, and a safe wrapper for each. A slice passes as
 //! a pointer and a length in elements. Nothing checks the declarations against the library.
 //!
-//! Each function answers how many bytes the whole has. What does not fit in `out` is dropped; bytes past the whole stay.
+//! A function that writes a text, a chunk or a part of one answers how many bytes the whole has. What does not fit in
+//! `out` is dropped; bytes past the whole stay.
+
+use std::ops::Range;
 
 /// A stretch of a pool of text.
 #[derive(Clone, Copy, Debug, Default, PartialEq)]
@@ -30,6 +33,14 @@ pub struct Switches {
 
 /// A comment: year, month, day, hour, minutes, kind, reference, start and length of its text.
 pub type Row = [u32; 9];
+
+/// What a read of DST sound is lent, for the positions that it needs: their lengths, their DST bytes joined and, if there
+/// are CRCs, their contents joined.
+pub struct Lent {
+    pub lengths: Vec<u32>,
+    pub frames: Vec<u8>,
+    pub contents: Vec<u8>,
+}
 
 mod library {
     extern "C" {
@@ -70,6 +81,63 @@ mod library {
             replacement: u8,
             empty_text: bool,
             text_pad_counted: bool,
+        ) -> usize;
+
+        pub fn jangqeruz_crc(content: *const u8, content_len: usize) -> u32;
+
+        pub fn jangqeruz_dst_head(
+            out: *mut u8,
+            out_len: usize,
+            crc: bool,
+            lengths: *const u32,
+            lengths_len: usize,
+        ) -> usize;
+
+        pub fn jangqeruz_dst_index(
+            out: *mut u8,
+            out_len: usize,
+            crc: bool,
+            frame_data: bool,
+            base: u64,
+            lengths: *const u32,
+            lengths_len: usize,
+        ) -> usize;
+
+        pub fn jangqeruz_dst_positions(
+            range: *mut [usize; 2],
+            crc: bool,
+            lengths: *const u32,
+            lengths_len: usize,
+            from: u64,
+            count: u64,
+        );
+
+        pub fn jangqeruz_dsd_positions(range: *mut [usize; 2], channels: u8, n: u32, from: u64, count: u64);
+
+        pub fn jangqeruz_dst_fill(
+            out: *mut u8,
+            out_len: usize,
+            skip: u64,
+            crc: bool,
+            channels: u8,
+            lengths: *const u32,
+            lengths_len: usize,
+            lent: *const u32,
+            lent_len: usize,
+            frames: *const u8,
+            frames_len: usize,
+            contents: *const u8,
+            contents_len: usize,
+        ) -> usize;
+
+        pub fn jangqeruz_dsd_fill(
+            out: *mut u8,
+            out_len: usize,
+            skip: u64,
+            channels: u8,
+            n: u32,
+            contents: *const u8,
+            contents_len: usize,
         ) -> usize;
     }
 }
@@ -137,5 +205,83 @@ pub fn comt(out: &mut [u8], pool: &[u32], rows: &[Row], conversion: Conversion, 
             switches.empty_text,
             switches.text_pad_counted,
         )
+    }
+}
+
+/// The CRC of a position's content.
+pub fn crc(content: &[u8]) -> u32 {
+    // SAFETY: the pointer and length are of one live slice, and the library keeps neither.
+    unsafe { library::jangqeruz_crc(content.as_ptr(), content.len()) }
+}
+
+/// The DST chunk's header and FRTE.
+pub fn dst_head(out: &mut [u8], crc: bool, lengths: &[u32]) -> usize {
+    // SAFETY: as in `text_bytes`.
+    unsafe { library::jangqeruz_dst_head(out.as_mut_ptr(), out.len(), crc, lengths.as_ptr(), lengths.len()) }
+}
+
+/// The data of DSTI, where the first unit starts at `base` of the file.
+pub fn dst_index(out: &mut [u8], crc: bool, frame_data: bool, base: u64, lengths: &[u32]) -> usize {
+    // SAFETY: as in `text_bytes`.
+    unsafe {
+        library::jangqeruz_dst_index(
+            out.as_mut_ptr(),
+            out.len(),
+            crc,
+            frame_data,
+            base,
+            lengths.as_ptr(),
+            lengths.len(),
+        )
+    }
+}
+
+/// What `range` holds before a call.
+const NO_RANGE: [usize; 2] = [usize::MAX, 0];
+
+/// The positions that a read of `count` bytes of DST sound needs.
+pub fn dst_positions(crc: bool, lengths: &[u32], from: u64, count: u64) -> Range<usize> {
+    let mut range = NO_RANGE;
+    // SAFETY: as in `text_bytes`, but that the library writes to `range` only.
+    unsafe { library::jangqeruz_dst_positions(&mut range, crc, lengths.as_ptr(), lengths.len(), from, count) };
+    range[0]..range[1]
+}
+
+/// The positions that a read of `count` bytes of DSD sound needs, of `n` positions.
+pub fn dsd_positions(channels: u8, n: u32, from: u64, count: u64) -> Range<usize> {
+    let mut range = NO_RANGE;
+    // SAFETY: as in `dst_positions`.
+    unsafe { library::jangqeruz_dsd_positions(&mut range, channels, n, from, count) };
+    range[0]..range[1]
+}
+
+/// Fills `out` with DST sound after its first `skip` bytes. Answers how many bytes it filled, or the largest `usize` if
+/// what is lent does not have the right lengths.
+pub fn dst_fill(out: &mut [u8], skip: u64, crc: bool, channels: u8, lengths: &[u32], lent: &Lent) -> usize {
+    // SAFETY: as in `text_bytes`.
+    unsafe {
+        library::jangqeruz_dst_fill(
+            out.as_mut_ptr(),
+            out.len(),
+            skip,
+            crc,
+            channels,
+            lengths.as_ptr(),
+            lengths.len(),
+            lent.lengths.as_ptr(),
+            lent.lengths.len(),
+            lent.frames.as_ptr(),
+            lent.frames.len(),
+            lent.contents.as_ptr(),
+            lent.contents.len(),
+        )
+    }
+}
+
+/// The same with DSD sound of `n` positions, lent their contents joined.
+pub fn dsd_fill(out: &mut [u8], skip: u64, channels: u8, n: u32, contents: &[u8]) -> usize {
+    // SAFETY: as in `text_bytes`.
+    unsafe {
+        library::jangqeruz_dsd_fill(out.as_mut_ptr(), out.len(), skip, channels, n, contents.as_ptr(), contents.len())
     }
 }

@@ -14,6 +14,11 @@ pub trait Subject {
     /// What the cases met, printed at the end.
     type Counts: Default + Display;
 
+    /// Cases that are tried in every run, before those that are drawn.
+    fn fixed() -> Vec<Self::Case> {
+        Vec::new()
+    }
+
     fn draw(random: &mut Random) -> Self::Case;
 
     /// The case's lines in the original's case language.
@@ -53,14 +58,14 @@ const ENOUGH_BYTES: usize = 1 << 26;
 const SHOWN_LINES: usize = 100;
 const SHOWN_CHARACTERS: usize = 2_000;
 
-/// A failing case, and the number of the drawn case.
+/// A failing case, and what it is called.
 struct Failure<C> {
-    number: u64,
+    name: String,
     size: usize,
     case: C,
 }
 
-/// Runs the first `count` cases of the seed and prints what came out. True if all agreed.
+/// Runs the fixed cases and the first `count` cases of the seed, and prints what came out. True if all agreed.
 pub fn run<S: Subject>(program: &Path, seed: u64, count: u64) -> Result<bool, String> {
     let mut original = Original::start(program)?;
     let mut counts = S::Counts::default();
@@ -68,14 +73,20 @@ pub fn run<S: Subject>(program: &Path, seed: u64, count: u64) -> Result<bool, St
     let (mut same, mut failed) = (0u64, 0u64);
     let mut smallest: Option<Failure<S::Case>> = None;
 
-    let cases = (0..count).map(|number| {
-        let case = S::draw(&mut Random::of_case(seed, number));
+    let fixed = S::fixed();
+    let fixed_count = fixed.len() as u64;
+    let name = |number: u64| match number.checked_sub(fixed_count) {
+        None => format!("fixed case {number}"),
+        Some(number) => format!("case {number}"),
+    };
+    let drawn = (0..count).map(|number| S::draw(&mut Random::of_case(seed, number)));
+    let cases = fixed.into_iter().chain(drawn).map(|case| {
         let lines = S::for_original(&case);
         (case, lines)
     });
     original.ask_all(cases, |number, case, answer| {
         let found = S::compare(&case, &answer, &mut counts)
-            .map_err(|e| format!("{} case {number} of seed {seed}: {e}", S::NAME))?;
+            .map_err(|e| format!("{}, {} of seed {seed}: {e}", S::NAME, name(number)))?;
         if found.is_empty() {
             same += 1;
             return Ok(());
@@ -86,15 +97,16 @@ pub fn run<S: Subject>(program: &Path, seed: u64, count: u64) -> Result<bool, St
         }
         let size = S::for_original(&case).len() + S::for_us(&case).len();
         if smallest.as_ref().is_none_or(|smallest| size < smallest.size) {
-            smallest = Some(Failure { number, size, case });
+            smallest = Some(Failure { name: name(number), size, case });
         }
         Ok(())
     })?;
 
-    if same + failed != count {
-        return Err(format!("{} of {count} cases were compared", same + failed));
+    if same + failed != fixed_count + count {
+        return Err(format!("{} of {} cases were compared", same + failed, fixed_count + count));
     }
-    println!("{}: seed {seed}, {count} cases, {same} the same\n", S::NAME);
+    let fixed = if fixed_count > 0 { format!(" and {fixed_count} fixed ones") } else { String::new() };
+    println!("{}: seed {seed}, {count} cases{fixed}, {same} the same\n", S::NAME);
     println!("{counts}");
     let Some(smallest) = smallest else {
         println!("no disagreement");
@@ -137,7 +149,7 @@ fn shrink<S: Subject>(original: &mut Original, failure: Failure<S::Case>) -> Res
         }
     };
     let (found, _) = found_in(&case)?;
-    println!("\nthe smallest, from case {} in {tries} tries", failure.number);
+    println!("\nthe smallest, from {} in {tries} tries", failure.name);
     if !whole {
         println!("(given up: it may get smaller)");
     }

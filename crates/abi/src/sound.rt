@@ -1,0 +1,141 @@
+// The sound of a file: DST by the lengths of its frames, DSD by the number n of its positions. A read skips so many bytes of the sound and fills
+// `out`; the answer is how many bytes it filled, or the largest usize if what is lent is not what the needed positions have.
+ghost use mathlib.Core.Path.{_≡_};
+ghost use mathlib.Core.List.{[], _∷_};
+ghost use Prim.Native.Nat.{_*_};
+ghost use lib.Dec.{eqb};
+ghost use lib.ListN.{length, replicate};
+ghost use Rattle.chunk.specs.Append.{Appended, moved};
+ghost use Rattle.dst.specs.Crc.{crcOf};
+ghost use Rattle.dst.specs.Frame.{frameBytes, plainBytes};
+ghost use Rattle.dst.specs.Unit.{sound, sizes};
+ghost use Rattle.dst.specs.Positions.{positions, number, between};
+ghost use Rattle.dst.specs.Head.{head};
+ghost use Rattle.dst.specs.Index.{shiftOf, index};
+ghost use Rattle.dst.specs.Lent.{isLent, framesWith, dsdSound, contentsWith};
+ghost use Rattle.abi.specs.Sound.{offsetOf, countOf, Count};
+use chunk::Cursor;
+use dst::index::DstIndexOffset;
+use dst::lent::Fill;
+use dst::window::Window;
+
+// An offset of the index leads to the frame's data, or to its chunk's header.
+fn offset(frame_data: bool) -> DstIndexOffset
+    ensures { λ r. ⌜ r ≡ offsetOf «frame_data» ⌝ }
+{
+    if frame_data {
+        return DstIndexOffset::FrameData;
+    }
+    DstIndexOffset::ChunkHeader
+}
+
+// How many bytes a read filled.
+fn count(fill: Fill) -> usize
+    ensures { λ r. ⌜ r ≡ countOf fill ⌝ }
+{
+    match fill {
+        Fill::Filled(w) => return w.at,
+        Fill::NotLent => return usize::MAX,
+    }
+}
+
+#[no_mangle]
+pub extern "C" fn jangqeruz_crc(content: &[u8]) -> u32
+    ensures { λ r. ⌜ r ≡ crcOf (now (content .entry)) ⌝ }
+{
+    dst::crc::crc(content)
+}
+
+// The DST chunk's header and FRTE. What is written into `out` is what fits of it; the answer is the length of all of it.
+#[no_mangle]
+pub extern "C" fn jangqeruz_dst_head(out: &mut [u8], crc: bool, lengths: &[u32]) -> usize
+    ensures { λ r. ⌜ Appended (now (out .entry)) 0 (head crc (now (lengths .entry))) (now (out .exit)) r ⌝ }
+{
+    let c = Cursor::new();
+    let end = dst::head::head(c, out, crc, lengths);
+    end.at
+}
+
+// The data of DSTI, likewise, where the first unit starts at `base`.
+#[no_mangle]
+pub extern "C" fn jangqeruz_dst_index(
+    out: &mut [u8],
+    crc: bool,
+    frame_data: bool,
+    base: u64,
+    lengths: &[u32],
+) -> usize
+    ensures { λ r. ⌜ Appended (now (out .entry)) 0 (index crc (moved base (shiftOf (offsetOf «frame_data»))) (now (lengths .entry))) (now (out .exit)) r ⌝ }
+{
+    let c = Cursor::new();
+    let end = dst::index::index(c, out, crc, offset(frame_data), base, lengths);
+    end.at
+}
+
+// The needed positions: the first, and one past the last.
+#[no_mangle]
+pub extern "C" fn jangqeruz_dst_positions(
+    range: &mut [usize; 2],
+    crc: bool,
+    lengths: &[u32],
+    from: u64,
+    count: u64,
+)
+    ensures { λ r. ⌜ now (range .exit) ≡ positions (sizes crc (now (lengths .entry))) from count .first ∷ positions (sizes crc (now (lengths .entry))) from count .end ∷ [] ⌝ }
+{
+    let p = dst::dst_data::positions(crc, lengths, from, count);
+    *range = [p.first, p.end];
+}
+
+#[no_mangle]
+pub extern "C" fn jangqeruz_dsd_positions(
+    range: &mut [usize; 2],
+    channels: u8,
+    n: u32,
+    from: u64,
+    count: u64,
+)
+    ensures { λ r. ⌜ now (range .exit) ≡ positions (replicate n (frameBytes channels)) from count .first ∷ positions (replicate n (frameBytes channels)) from count .end ∷ [] ⌝ }
+{
+    let p = dst::dsd_data::positions(channels, n, from, count);
+    *range = [p.first, p.end];
+}
+
+#[no_mangle]
+pub extern "C" fn jangqeruz_dst_fill(
+    out: &mut [u8],
+    skip: u64,
+    crc: bool,
+    channels: u8,
+    lengths: &[u32],
+    lent: &[u32],
+    frames: &[u8],
+    contents: &[u8],
+) -> usize
+    ensures { λ r. ⌜ Count
+        (isLent (plainBytes crc channels) (between (positions (sizes crc (now (lengths .entry))) skip (length (now (out .entry)))) (now (lengths .entry)))
+        (now (lent .entry)) (now (frames .entry)) (now (contents .entry)))
+        (sound crc (framesWith (plainBytes crc channels) (positions (sizes crc (now (lengths .entry))) skip (length (now (out .entry)))) (now (lengths .entry))
+        (now (frames .entry)) (now (contents .entry))))
+        skip (now (out .entry)) (now (out .exit)) r ⌝ }
+{
+    let start = Window { at: 0, skip };
+    count(dst::dst_data::fill(out, start, crc, channels, lengths, lent, frames, contents))
+}
+
+#[no_mangle]
+pub extern "C" fn jangqeruz_dsd_fill(
+    out: &mut [u8],
+    skip: u64,
+    channels: u8,
+    n: u32,
+    contents: &[u8],
+) -> usize
+    ensures { λ r. ⌜ Count
+        (eqb (frameBytes channels * number (positions (replicate n (frameBytes channels)) skip (length (now (out .entry))))) (length (now (contents .entry))))
+        (dsdSound (contentsWith (frameBytes channels) (positions (replicate n (frameBytes channels)) skip (length (now (out .entry)))) n (now (contents .entry))))
+        skip (now (out .entry)) (now (out .exit)) r ⌝ }
+{
+    let start = Window { at: 0, skip };
+    count(dst::dsd_data::fill(out, start, channels, n, contents))
+}

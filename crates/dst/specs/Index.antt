@@ -1,0 +1,24 @@
+-- The index of the frames (01: "DSTI holds per frame an 8-byte offset of the DSTF header (12 more under `FrameData`) and a 4-byte length").
+-- Assumes nothing.
+use Prim.Native.Nat.{ℕ}
+use mathlib.Core.Bool.{Bool}
+use mathlib.Core.List.{List, [], _∷_, _++_}
+use Rattle.chunk.specs.Append.{moved}
+use Rattle.chunk.specs.Number.{be}
+use Rattle.dst.specs.Unit.{unitSize}
+use Rattle.dst.specs.declared.index.DstIndexOffset.{DstIndexOffset}
+use Rattle.dst.specs.declared.index.DstIndexOffset.the-variants.{ChunkHeader, FrameData}
+
+-- how far past the DSTF header's first byte an offset leads
+abbrev pub shiftOf : DstIndexOffset → ℕ
+shiftOf ChunkHeader = 0
+shiftOf FrameData = 12
+
+-- an entry
+unfoldable pub entry : ℕ → ℕ → List ℕ
+entry offset l = be 8 offset ++ be 4 l
+
+-- the entries of frames with these lengths, of which the first has this offset (offsets stop at the largest u64)
+unfoldable pub index : Bool → ℕ → List ℕ → List ℕ
+index crc at [] = []
+index crc at (l ∷ ls) = entry at l ++ index crc (moved at (unitSize crc l)) ls

@@ -1,0 +1,41 @@
+-- The file that a read is of, as far as what is lent says: zeros stand for the frames that it does not need. Assumes nothing.
+use Prim.Native.Nat.{ℕ, _*_, _-_}
+use mathlib.Core.Bool.{Bool, _&&_}
+use mathlib.Core.List.{List, [], _∷_, _++_, map, flatMap}
+use lib.Dec.{eqb}
+use lib.ListN.{length, take, drop, replicate}
+use Rattle.chunk.specs.Name.{same}
+use Rattle.chunk.specs.Extent.{firstRows}
+use Rattle.dst.specs.declared.place.Positions.{Positions}
+use Rattle.dst.specs.Frame.{Frame}
+use Rattle.dst.specs.Place.{sum}
+use Rattle.dst.specs.Positions.{number, between}
+
+-- whether what is lent for positions of these lengths is theirs: the same lengths, as many DST bytes, and n bytes of content for each
+unfoldable pub isLent : ℕ → List ℕ → List ℕ → List ℕ → List ℕ → Bool
+isLent n needed lengths frames contents =
+    same lengths needed && (eqb (sum needed) (length frames) && eqb (n * length needed) (length contents))
+
+-- the frames of these lengths, whose DST bytes are joined and whose contents, n bytes each, are joined
+unfoldable pub lentFrames : ℕ → List ℕ → List ℕ → List ℕ → List Frame
+lentFrames n [] frames contents = []
+lentFrames n (l ∷ ls) frames contents =
+    record { code = take l frames; content = take n contents } ∷ lentFrames n ls (drop l frames) (drop n contents)
+
+-- frames of zeros
+unfoldable pub zeroFrame : ℕ → ℕ → Frame
+zeroFrame n l = record { code = replicate l 0; content = replicate n 0 }
+
+-- the frames of a file with these lengths, of which those of some positions are lent
+unfoldable pub framesWith : ℕ → Positions → List ℕ → List ℕ → List ℕ → List Frame
+framesWith n p ls frames contents =
+    map (zeroFrame n) (take (p .first) ls) ++ lentFrames n (between p ls) frames contents ++ map (zeroFrame n) (drop (p .end) ls)
+
+-- DSD sound: the contents of its positions, one after the other
+unfoldable pub dsdSound : List (List ℕ) → List ℕ
+dsdSound contents = flatMap (λ c. c) contents
+
+-- the contents of n positions, of frame bytes each, of which those of some positions are lent
+unfoldable pub contentsWith : ℕ → Positions → ℕ → List ℕ → List (List ℕ)
+contentsWith frame p n contents =
+    replicate (p .first) (replicate frame 0) ++ firstRows frame (number p) contents ++ replicate (n - p .end) (replicate frame 0)

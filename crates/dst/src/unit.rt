@@ -1,0 +1,63 @@
+// A frame's unit: its DSTF chunk and, with CRC on, its DSTC chunk. Sums of sizes stop at the largest u64, which says that they do not fit.
+ghost use mathlib.Core.Path.{_≡_};
+ghost use lib.ListN.{take};
+ghost use Prim.Native.Nat.{_-_, _^_, min};
+ghost use Rattle.chunk.specs.Append.{moved};
+ghost use Rattle.dst.specs.Unit.{unitSize, sizes};
+ghost use Rattle.dst.specs.Place.{sum, start};
+ghost use Rattle.dst.specs.Head.{dataSize};
+use chunk::chunks::occupied;
+
+// Bytes of a DSTC chunk.
+const DSTC: u64 = 16;
+
+// The sum, at most the largest u64.
+pub fn plus(a: u64, b: u64) -> u64
+    ensures { λ r. ⌜ r ≡ moved a b ⌝ }
+{
+    if b <= u64::MAX - a {
+        return a + b;
+    }
+    u64::MAX
+}
+
+// What a frame of so many DST bytes occupies.
+pub fn unit_size(crc: bool, length: u32) -> u64
+    ensures { λ r. ⌜ r ≡ unitSize crc length ⌝ }
+{
+    let dstf = occupied(length as u64);
+    if crc {
+        return dstf + DSTC;
+    }
+    dstf
+}
+
+// The sound's length.
+pub fn units(crc: bool, lengths: &[u32]) -> u64
+    ensures { λ r. ⌜ r ≡ min (sum (sizes crc (now (lengths .entry)))) (2 ^ 64 - 1) ⌝ }
+{
+    let mut all: u64 = 0;
+    let mut i = 0;
+    while i < lengths.len() {
+        all = plus(all, unit_size(crc, lengths[i]));
+        i += 1;
+    }
+    all
+}
+
+// Where the unit of position i starts in the sound.
+pub fn start(crc: bool, lengths: &[u32], i: usize) -> u64
+    ensures { λ r. ⌜ r ≡ min (start (sizes crc (now (lengths .entry))) i) (2 ^ 64 - 1) ⌝ }
+{
+    if i < lengths.len() {
+        return units(crc, &lengths[0..i]);
+    }
+    units(crc, lengths)
+}
+
+// The data size of the DST chunk: FRTE and the units.
+pub fn data_size(crc: bool, lengths: &[u32]) -> u64
+    ensures { λ r. ⌜ r ≡ dataSize (sizes crc (now (lengths .entry))) ⌝ }
+{
+    plus(18, units(crc, lengths))
+}

@@ -1,0 +1,90 @@
+// A read's place, which travels by value: each piece is put into the part of the caller's buffer that begins at it, and the place after
+// the piece is handed on.
+ghost use mathlib.Core.Path.{_≡_};
+ghost use mathlib.Core.List.{_++_};
+ghost use Prim.Native.Nat.{_≤_, _-_, min};
+ghost use lib.ListN.{length, take, drop};
+ghost use Rattle.dst.specs.Window.{Wrote};
+
+// Bytes written so far, and bytes of what is read that are still to be skipped.
+pub struct Window {
+    pub at: usize,
+    pub skip: u64,
+}
+
+fn least(a: usize, b: usize) -> usize
+    ensures { λ r. ⌜ r ≡ min a b ⌝ }
+{
+    if a < b { a } else { b }
+}
+
+// Copies the first n bytes of src over those of out.
+fn copy(out: &mut [u8], src: &[u8], n: usize)
+    requires { ⌜ (n ≤ length (now out)) × (n ≤ length (now src)) ⌝ }
+    ensures { λ _. ⌜ now (out .exit) ≡ take n (now (src .entry)) ++ drop n (now (out .entry)) ⌝ }
+{
+    let mut i = 0;
+    while i < n {
+        out[i] = src[i];
+        i += 1;
+    }
+}
+
+// Writes a piece, less its first skip bytes, from the front of out on, as much as fits.
+fn lay(out: &mut [u8], piece: &[u8], skip: u64) -> Window
+    ensures { λ r. ⌜ Wrote (now (piece .entry)) (record { at = 0; skip = skip }) (now (out .entry)) (now (out .exit)) r ⌝ }
+{
+    let size = piece.len() as u64;
+    if size <= skip {
+        return Window {
+            at: 0,
+            skip: skip - size,
+        };
+    }
+    let from = &piece[skip as usize..];
+    let n = least(from.len(), out.len());
+    copy(out, from, n);
+    Window { at: n, skip: 0 }
+}
+
+// How many bytes fit in a buffer of so many, from a place on.
+pub(crate) fn room(len: usize, at: usize) -> usize
+    ensures { λ r. ⌜ r ≡ len - at ⌝ }
+{
+    if at < len {
+        return len - at;
+    }
+    0
+}
+
+impl Window {
+    // Past a piece of so many bytes, of which nothing is to be written.
+    pub(crate) fn pass(self, size: u64) -> Window
+        ensures { λ r. ⌜ r ≡ record { at = self .at; skip = self .skip - size } ⌝ }
+    {
+        let at = self.at;
+        let skip = self.skip;
+        if size <= skip {
+            return Window {
+                at,
+                skip: skip - size,
+            };
+        }
+        Window { at, skip: 0 }
+    }
+
+    // Puts the next piece.
+    pub fn put(self, out: &mut [u8], piece: &[u8]) -> Window
+        ensures { λ r. ⌜ Wrote (now (piece .entry)) self (now (out .entry)) (now (out .exit)) r ⌝ }
+    {
+        let at = self.at;
+        if out.len() <= at {
+            return self.pass(piece.len() as u64);
+        }
+        let w = lay(&mut out[at..], piece, self.skip);
+        Window {
+            at: at + w.at,
+            skip: w.skip,
+        }
+    }
+}

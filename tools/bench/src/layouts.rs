@@ -1,0 +1,81 @@
+//! Layouts of the original, from the first position on, with the options at their defaults.
+
+use crate::error::{Error, Slot};
+use crate::image::SectorFormat;
+use crate::output::{DstLengths, Format, InvalidDst, Layout, OutputOptions, SourceTrack, TagSet, Tags};
+use crate::toc::{Area, AreaKind, AreaPointer, AreaText, Date, DiscText, Genre, MasterToc, Timecode, Toc, Version};
+
+/// A file of DSD sound.
+pub fn dsd(channels: u8, positions: u32) -> Result<Layout, Error> {
+    Layout::new(&toc(channels, positions), Slot::TwoChannel, 0, positions, Format::DsdiffDsd, &options())
+}
+
+/// A file of DST sound, a frame for each length.
+pub fn dst(channels: u8, crc: bool, lengths: &[u32]) -> Result<Layout, Error> {
+    let positions = lengths.len() as u32;
+    let toc = toc(channels, positions);
+    let lengths = DstLengths::from_lengths(&toc.areas[0], 0, positions, InvalidDst::Stored, lengths.to_vec())?;
+    Layout::new_dst(&toc, &lengths, &options().with_dsdiff_dst_crc(crc))
+}
+
+fn options() -> OutputOptions {
+    OutputOptions::default().with_source_track(SourceTrack::None).with_tags(Tags::Set(TagSet::new()))
+}
+
+/// A table of contents with one area, of so many frames (up to 255 minutes).
+fn toc(channels: u8, frames: u32) -> Toc {
+    let version = Version { major: 1, minor: 0 };
+    let genre = Genre { category: 0, index: 0 };
+    let pointer = AreaPointer { toc1_lsn: 0, toc2_lsn: 0, toc_sectors: 0 };
+    let playtime =
+        Timecode { minutes: (frames / 4_500) as u8, seconds: (frames / 75 % 60) as u8, frames: (frames % 75) as u8 };
+    let area = Area {
+        slot: Slot::TwoChannel,
+        kind: AreaKind::TwoChannel,
+        version,
+        toc_lsn: 0,
+        toc_sectors: 0,
+        max_byte_rate: 0,
+        sample_frequency_code: 4,
+        frame_format: 0,
+        channel_count: channels,
+        area_config: 0,
+        max_available_channels: 0,
+        area_mute_flags: 0,
+        track_attribute: 0,
+        playtime,
+        track_offset: 0,
+        audio_start_lsn: 0,
+        audio_end_lsn: u32::MAX,
+        text_channel_count: 0,
+        locales: Vec::new(),
+        text_charset: 0,
+        text: AreaText::default(),
+        tracks: Vec::new(),
+    };
+    Toc {
+        sector_format: SectorFormat::Plain,
+        sectors: u64::MAX,
+        master: MasterToc {
+            version,
+            album_set_size: 0,
+            album_sequence_number: 0,
+            album_catalog_number: String::new(),
+            album_catalog_number_stored: Vec::new(),
+            album_genres: [genre; 4],
+            two_channel: pointer,
+            multichannel: pointer,
+            disc_flags: 0,
+            disc_catalog_number: String::new(),
+            disc_catalog_number_stored: Vec::new(),
+            disc_genres: [genre; 4],
+            date: Date { year: 0, month: 0, day: 0 },
+            text_channel_count: 0,
+            locales: Vec::new(),
+            text_charset: 0,
+            text: DiscText::default(),
+            manufacturer: None,
+        },
+        areas: vec![area],
+    }
+}
