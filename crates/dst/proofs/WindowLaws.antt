@@ -7,7 +7,7 @@ use native.Mathlib.Nat.{add-assoc, add-suc, add-zero, zero-add, mod-lt}
 use native.Mathlib.Omega.{arith, sub-cases}
 use borrow.Rule.Slice.PartMut.{midOf, postOf, putMid}
 use lib.ListN.{length, take, drop, set, replicate, length-append, length-drop, drop-of-length-le, take-append-drop}
-use lib.Seq.{take-all, drop-nil, take-set-le, drop-set-add, drop-append-add}
+use lib.Seq.{take-all, take-add, take-at, drop-at, drop-drop, drop-nil, length-take-le, take-set-le, drop-set-add, drop-append-add}
 use mathlib.Core.Bool.{true, _||_}
 use borrow.Author.Tests.{eqb-true, leb-true}
 use lib.Dec.{lit<, eqb, leb}
@@ -138,6 +138,26 @@ tail-put {bytes} {at} {skip} {out} {part} {v} h p =
       filled = rw (tail-back at out part, f, overlay-tail at 0 out (drop skip bytes), add-zero);
       place = rw (p .place, e, n);
     }
+
+-- so many bytes are in `&xs[i..]`
+pub tail-long : (i k : ℕ) (xs : List ℕ) → k ≤ length xs - i → k ≤ length (midOf i (length xs - i) xs)
+tail-long i k xs h = rw (tail-lent i xs, length-drop i xs) h
+
+-- k bytes more are copied, from `&src[i..]` to `&mut mid[i..]`
+pub copied-on : (i k : ℕ) (out src mid part : List ℕ) → i ≤ length src → mid ≡ take i src ++ drop i out
+    → part ≡ take k (midOf i (length src - i) src) ++ drop k (midOf i (length mid - i) mid)
+    → putMid i (length mid - i) mid part ≡ take (i + k) src ++ drop (i + k) out
+copied-on i k out src mid part h e f =
+    let l = length-take-le i src h in
+    let t : take i mid ≡ take i src = ap (take i) e ∙ take-at (take i src) (drop i out) i l in
+    let d : drop i mid ≡ drop i out = ap (drop i) e ∙ drop-at (take i src) (drop i out) i l in
+    let g : part ≡ take k (drop i src) ++ drop k (drop i out) = rw (f, tail-lent i src, tail-lent i mid, d) in
+    tail-back i mid part
+    ∙ rw (t, g, drop-drop k i out, take-add i k src) (sym (append-assoc (take i src) (take k (drop i src)) (drop (i + k) out)))
+
+-- k bytes, copied by way of another buffer
+pub copied-through : (k : ℕ) (src block rest out : List ℕ) → k ≤ length src → block ≡ take k src ++ rest → take k block ++ drop k out ≡ take k src ++ drop k out
+copied-through k src block rest out h e = ap (λ (l : List ℕ). l ++ drop k out) (ap (take k) e ∙ take-at (take k src) rest k (length-take-le k src h))
 
 -- its end is within the buffer
 pub tail-fits : {bytes : List ℕ} {at skip : ℕ} (out : List ℕ) {part : List ℕ} {v : Window} → at ≤ length out

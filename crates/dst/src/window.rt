@@ -30,6 +30,30 @@ fn copy(out: &mut [u8], src: &[u8], n: usize)
     }
 }
 
+// Copies the first 4,096 bytes of src over those of out, by way of an array of its own: it overlaps neither, so the compiler makes a memcpy of
+// each loop, which it cannot of a copy from one lent slice to another.
+fn copy_block(out: &mut [u8], src: &[u8])
+    requires { ⌜ (4096 ≤ length (now out)) × (4096 ≤ length (now src)) ⌝ }
+    ensures { λ _. ⌜ now (out .exit) ≡ take 4096 (now (src .entry)) ++ drop 4096 (now (out .entry)) ⌝ }
+{
+    let mut block = [0u8; 4096];
+    copy(&mut block, src, 4096);
+    copy(out, &block, 4096);
+}
+
+// The same as `copy`, in blocks as far as they go.
+fn copy_blocks(out: &mut [u8], src: &[u8], n: usize)
+    requires { ⌜ (n ≤ length (now out)) × (n ≤ length (now src)) ⌝ }
+    ensures { λ _. ⌜ now (out .exit) ≡ take n (now (src .entry)) ++ drop n (now (out .entry)) ⌝ }
+{
+    let mut i = 0;
+    while 4096 <= n - i {
+        copy_block(&mut out[i..], &src[i..]);
+        i += 4096;
+    }
+    copy(&mut out[i..], &src[i..], n - i);
+}
+
 // Writes a piece, less its first skip bytes, from the front of out on, as much as fits.
 fn lay(out: &mut [u8], piece: &[u8], skip: u64) -> Window
     ensures { λ r. ⌜ Wrote (now (piece .entry)) (record { at = 0; skip = skip }) (now (out .entry)) (now (out .exit)) r ⌝ }
@@ -43,7 +67,7 @@ fn lay(out: &mut [u8], piece: &[u8], skip: u64) -> Window
     }
     let from = &piece[skip as usize..];
     let n = least(from.len(), out.len());
-    copy(out, from, n);
+    copy_blocks(out, from, n);
     Window { at: n, skip: 0 }
 }
 

@@ -31,8 +31,8 @@ least-requires : tie.Need-least-requires
 least-requires c κs = search needs
 
 -- src/window.rt:46:5
-copy-requires : tie.Need-copy-requires
-copy-requires c κs = search needs
+copy-blocks-requires : tie.Need-copy-blocks-requires
+copy-blocks-requires c κs = search needs
 
 -- src/window.rt:34:1
 same-length : tie.Need-same-length
@@ -40,7 +40,7 @@ same-length c = search needs
 
 -- src/window.rt:34:1
 returns-2 : tie.Need-returns-2
-returns-2 c = copied-out (search needs) (search needs) (search needs) (c .before .before .before .before .least .ensures) (c .before .before .copy .ensures)
+returns-2 c = copied-out (search needs) (search needs) (search needs) (c .before .before .before .before .least .ensures) (c .before .before .copy-blocks .ensures)
 
 pub lay-spec : {M : Type 1} → statement M
 lay-spec =
@@ -51,6 +51,6 @@ lay-spec =
     part-from-start
     part-from-end
     least-requires
-    copy-requires
+    copy-blocks-requires
     same-length
     returns-2)
