@@ -5,7 +5,6 @@ use mathlib.Core.List.{List}
 use Prim.Native.Nat.{ℕ, _+_, _-_, min}
 use native.Mathlib.Omega.{arith}
 use lib.ListN.{length}
-use Rattle.dst.specs.declared.window.Window.{Window}
 use Rattle.dst.specs.declared.lent.Fill.{Fill}
 use Rattle.dst.specs.Window.{shown, after, Filling}
 use Rattle.abi.specs.Sound.{countOf, Count}

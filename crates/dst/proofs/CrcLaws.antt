@@ -2,9 +2,8 @@
 -- Assumes nothing.
 use mathlib.Core.Path.{_≡_, refl, sym, ap, ap₂, _∙_}
 use Prim.Native.Nat.{ℕ, zero, suc, _+_, _*_, _/_, _%_, _^_, _≤_, _<_}
-use native.Mathlib.Nat.{mod-lt, mod-eq-of-lt, add-zero, mul-one, mul-assoc, pow-suc, mul-comm}
+use native.Mathlib.Nat.{mod-lt, add-zero, mul-one, mul-assoc, pow-suc, mul-comm}
 use native.Mathlib.Omega.{arith}
-use lib.Dec.{lit<}
 use lib.Pow.{split, pow-pos, pow-mono}
 use lib.Bits.{bitXor, xor-shr, xor-mod, xor-lt, xor-block, xor-shifted, xor-zero-r, xor-comm}
 use Rattle.dst.specs.Crc.{poly, bit, bits, byteOf}

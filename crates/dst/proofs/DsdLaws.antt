@@ -4,7 +4,7 @@ use mathlib.Core.Logic.{_⊎_, inl, inr, ⊎-elim}
 use mathlib.Core.Bool.{true, cond}
 use mathlib.Core.List.{List, [], _∷_, _++_, map, flatMap, map-append}
 use Prim.Native.Nat.{ℕ, zero, suc, _+_, _*_, _-_, _/_, _%_, _^_, _≤_, _<_}
-use native.Mathlib.Nat.{mul-zero, zero-mul, mul-suc, mul-add, add-comm, mul-le-mul-left, mul-le-mul-right, div-add-mod, mod-lt, div-le-self, not-suc-le-zero}
+use native.Mathlib.Nat.{mul-zero, zero-mul, mul-suc, mul-add, add-comm, mul-le-mul-left, mul-le-mul-right, div-add-mod, mod-lt, not-suc-le-zero}
 use native.Mathlib.Numerals.{add-one}
 use native.Mathlib.Omega.{arith}
 use lib.Dec.{ltb}
@@ -14,7 +14,7 @@ use Rattle.chunk.specs.Extent.{firstRows}
 use Rattle.dst.specs.declared.place.Place.{Place}
 use Rattle.dst.specs.declared.place.Positions.{Positions}
 use Rattle.dst.specs.Frame.{frameBytes}
-use Rattle.dst.specs.Place.{sum, start, placeOf, byteAt, Inside}
+use Rattle.dst.specs.Place.{sum, start, placeOf, Inside}
 use Rattle.dst.specs.declared.window.Window.{Window}
 use Rattle.dst.specs.declared.lent.Fill.the-variants.{Filled}
 use Rattle.dst.specs.Positions.{positions, number, between}
@@ -185,7 +185,16 @@ module _ (f : ℕ) (p : Positions) (n : ℕ) (contents : List ℕ) (ordered : p 
   with-sizes =
       let e : p .first + number p + (n - p .end) ≡ n = omega arith in
       map-append (λ (c : List ℕ). length c) (replicate (p .first) (replicate f 0) ++ firstRows f (number p) contents) (replicate (n - p .end) (replicate f 0))
-      ∙ rw (map-append (λ (c : List ℕ). length c) (replicate (p .first) (replicate f 0)) (firstRows f (number p) contents), zeros-sizes f (p .first), zeros-sizes f (n - p .end), rows-sizes f (number p) contents (omega arith), replicate-append-replicate (p .first) (number p) f, replicate-append-replicate (p .first + number p) (n - p .end) f, e) refl
+      ∙ rw (
+        map-append (λ (c : List ℕ). length c) (replicate (p .first) (replicate f 0)) (firstRows f (number p) contents),
+        zeros-sizes f (p .first),
+        zeros-sizes f (n - p .end),
+        rows-sizes f (number p) contents (omega arith),
+        replicate-append-replicate (p .first) (number p) f,
+        replicate-append-replicate (p .first + number p) (n - p .end) f,
+        e,
+      )
+      refl
 
   pub with-rows : between p (contentsWith f p n contents) ≡ firstRows f (number p) contents
   unfolding contentsWith

@@ -6,7 +6,7 @@ use Prim.Native.Nat.{ℕ, zero, suc, _+_, _*_, _-_, _^_, _≤_, _<_, min}
 use native.Mathlib.Nat.{mul-zero, mul-suc, add-comm, not-suc-le-zero, le-of-eq, le-of-suc-le-suc}
 use native.Mathlib.Omega.{arith}
 use lib.Dec.{eqb}
-use lib.ListN.{length, take, drop, getD, replicate, length-append, length-map, length-replicate, length-drop, take-append-drop}
+use lib.ListN.{length, take, drop, getD, length-append, length-map, length-replicate, length-drop, take-append-drop}
 use lib.Seq.{slice, take-take, take-nil, drop-drop, length-take-le, length-slice, take-at, drop-at}
 use borrow.Author.Tests.{eqb-true}
 use Rattle.chunk.specs.Name.{same}

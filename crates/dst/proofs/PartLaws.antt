@@ -7,20 +7,20 @@ use Prim.Native.Nat.{ℕ, zero, suc, _+_, _-_, _≤_, _<_, min}
 use native.Mathlib.Omega.{arith}
 use borrow.Author.Tests.{lt-ltb, le-ltb}
 use lib.Dec.{ltb}
-use lib.ListN.{length, take, drop, getD, length-append, length-drop, length-map, drop-of-length-le, take-append-drop}
+use lib.ListN.{length, take, drop, length-append, length-drop, length-map, drop-of-length-le, take-append-drop}
 use lib.Seq.{drop-append-add, drop-nil, take-take, slice}
 use Rattle.chunk.specs.Append.{overlay}
 use Rattle.chunk.proofs.AppendLaws.{length-overlay, overlay-out, overlay-append}
 use Rattle.chunk.proofs.ListLaws.{flatMap-append}
 use Rattle.dst.specs.declared.window.Window.{Window}
 use Rattle.dst.specs.declared.place.Positions.{Positions}
-use Rattle.dst.specs.Place.{sum, start, positionAt, placeOf}
+use Rattle.dst.specs.Place.{sum, start, placeOf}
 use Rattle.dst.specs.Positions.{positions, between}
 use Rattle.dst.specs.declared.lent.Fill.{Fill}
 use Rattle.dst.specs.declared.lent.Fill.the-variants.{Filled}
 use Rattle.dst.specs.Window.{shown, after, Wrote, Filling}
-use Rattle.dst.proofs.StartLaws.{sum-append, start-all, start-mono}
-use Rattle.dst.proofs.PlaceLaws.{Found, found, position-is, position-end}
+use Rattle.dst.proofs.StartLaws.{start-all, start-mono}
+use Rattle.dst.proofs.PlaceLaws.{found, position-is, position-end}
 use Rattle.dst.proofs.PositionsLaws.{Nothing, Some, positions-are, positions-none}
 use Rattle.dst.proofs.WindowLaws.{drop-append}
 

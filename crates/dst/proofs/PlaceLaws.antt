@@ -1,16 +1,16 @@
 -- The laws of `positionAt` and `placeOf` of specs/Place.antt: where a place is, and that a walk finds it. Assumes nothing.
-use mathlib.Core.Path.{_≡_, refl, sym, ap, _∙_}
+use mathlib.Core.Path.{_≡_, refl, ap}
 use mathlib.Core.Logic.{_⊎_, inl, inr, ⊎-elim}
 use mathlib.Core.Bool.{Bool, true, false}
 use mathlib.Core.List.{List}
-use Prim.Native.Nat.{ℕ, zero, suc, _+_, _-_, _≤_, _<_}
+use Prim.Native.Nat.{ℕ, zero, suc, _+_, _≤_, _<_}
 use native.Mathlib.Nat.{not-suc-le-zero, le-of-suc-le-suc, add-sub-cancel-left}
 use native.Mathlib.Omega.{arith}
 use borrow.Author.Tests.{lt-ltb, le-ltb}
 use lib.Dec.{ltb}
 use lib.ListN.{length, getD}
 use Rattle.dst.specs.declared.place.Place.{Place}
-use Rattle.dst.specs.Place.{sum, start, firstOf, positionAt, placeOf, byteAt, Inside}
+use Rattle.dst.specs.Place.{start, firstOf, positionAt, placeOf, byteAt, Inside}
 use Rattle.dst.proofs.StartLaws.{start-zero, start-suc, start-mono}
 
 pub lt-or-le : (a b : ℕ) → (a < b) ⊎ (b ≤ a)

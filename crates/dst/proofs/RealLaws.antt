@@ -1,16 +1,15 @@
 -- THE READ OF A REAL FILE. A read's contract speaks of the file with zeros for what is not lent. Where what is lent are the needed frames of a
 -- real file, it is accepted, and what it shows is the real file's. Assumes nothing.
 use mathlib.Core.Path.{_≡_, refl, sym, ap, _∙_}
-use mathlib.Core.Bool.{Bool, true, false, cond, _&&_}
-use mathlib.Core.List.{List, [], _∷_, _++_, map, flatMap}
-use Prim.Native.Nat.{ℕ, zero, suc, _+_, _-_, _*_, _≤_, _<_}
+use mathlib.Core.Bool.{Bool, true, false, cond}
+use mathlib.Core.List.{List, [], _∷_, map, flatMap}
+use Prim.Native.Nat.{ℕ, zero, suc, _-_, _*_, _≤_}
 use native.Mathlib.Nat.{mul-zero, zero-mul, mul-suc, add-comm}
 use native.Mathlib.Omega.{arith}
 use borrow.Author.Tests.{eq-eqb}
 use lib.Dec.{eqb}
-use lib.ListN.{length, take, drop, replicate, length-append, length-replicate}
-use lib.Seq.{slice, take-at, drop-at, length-slice}
-use Rattle.chunk.specs.Name.{same}
+use lib.ListN.{length, take, drop, replicate, length-append}
+use lib.Seq.{slice, take-at, drop-at}
 use Rattle.dst.specs.declared.window.Window.{Window}
 use Rattle.dst.specs.declared.place.Positions.{Positions}
 use Rattle.dst.specs.declared.lent.Fill.{Fill}
@@ -25,7 +24,7 @@ use Rattle.dst.proofs.UnitLaws.{lengths, unit-plain, sizes-of}
 use Rattle.dst.proofs.LentLaws.{Even, lent-real}
 use Rattle.dst.proofs.PartLaws.{map-take, part-real, length-joined}
 use Rattle.dst.proofs.DsdLaws.{sum-replicate, take-replicate, frames-touched, with-sizes, with-rows, rows-joined, wanted-known}
-use Rattle.dst.proofs.FillLaws.{units-touched, needed-known, sizes-with, between-with}
+use Rattle.dst.proofs.FillLaws.{units-touched, sizes-with, between-with}
 
 -- what frames lend: their DST bytes joined and, with CRC on, their plain contents joined
 abbrev pub codes : List Frame → List ℕ

@@ -11,7 +11,6 @@ use borrow.Author.Tests.{eqb-true, eqb-false, leb-true, leb-false}
 use lib.Dec.{eqb, leb}
 use lib.ListN.{length, getD, length-map}
 use Rattle.dst.specs.declared.place.Place.{Place}
-use Rattle.dst.specs.declared.place.Positions.{Positions}
 use Rattle.chunk.specs.Chunk.{occupied}
 use Rattle.dst.specs.Unit.{unitSize}
 use Rattle.dst.specs.Place.{start, placeOf, byteAt, Inside}
@@ -19,7 +18,7 @@ use Rattle.dst.specs.Positions.{positions}
 use Rattle.dst.proofs.StartLaws.{start-zero, start-suc, start-mono, size-at}
 use Rattle.dst.proofs.TestLaws.{either, neither}
 use Rattle.dst.proofs.PlaceLaws.{lt-or-le, place-is, place-end}
-use Rattle.dst.proofs.PositionsLaws.{Touch, positions-are, positions-none}
+use Rattle.dst.proofs.PositionsLaws.{positions-are, positions-none}
 
 -- the test for nothing to be touched: no byte is wanted, or the place is past the last of n positions
 pub none-touched : (ss : List ℕ) (a : Place) (count n : ℕ) → length ss ≡ n → eqb count 0 || leb n (a .position) ≡ true

@@ -7,7 +7,7 @@ use native.Mathlib.Nat.{add-assoc, add-suc, add-zero, zero-add, mod-lt}
 use native.Mathlib.Omega.{arith, sub-cases}
 use borrow.Rule.Slice.PartMut.{midOf, postOf, putMid}
 use lib.ListN.{length, take, drop, set, replicate, length-append, length-drop, drop-of-length-le, take-append-drop}
-use lib.Seq.{take-all, take-add, take-at, drop-at, drop-drop, drop-nil, length-take-le, take-set-le, drop-set-add, drop-append-add}
+use lib.Seq.{take-all, take-add, take-at, drop-at, drop-drop, drop-nil, length-take-le, take-set-le, drop-set-add}
 use mathlib.Core.Bool.{true, _||_}
 use borrow.Author.Tests.{eqb-true, leb-true}
 use lib.Dec.{lit<, eqb, leb}

@@ -1,8 +1,7 @@
--- `crc::crc` meets its contract. The invariant: the bytes from i on, after the register r, give the CRC of the whole.
--- Assumes nothing.
-use mathlib.Core.Path.{_≡_, refl, sym, ap, _∙_}
-use mathlib.Core.List.{List, [], _∷_}
-use Prim.Native.Nat.{ℕ, suc, _+_, _-_, _≤_, _<_, _^_}
+-- `crc::crc` meets its contract. The invariant: the bytes from i on, after the register r, give the CRC of the whole. Assumes nothing.
+use mathlib.Core.Path.{_≡_, refl, _∙_}
+use mathlib.Core.List.{List}
+use Prim.Native.Nat.{ℕ, _+_, _-_, _≤_, _<_}
 use native.Mathlib.Numerals.{add-one}
 use native.Mathlib.Omega.{arith}
 use lib.ListN.{length, drop, getD, drop-of-length-le}
@@ -27,9 +26,6 @@ step s i r h = rw (add-one, drop-cons s i 0)
 loop-holds : tie.Need-loop-holds Inv-loop μ-loop
 unfolding crcOf
 loop-holds c = (omega arith, refl)
-
-shared-slice-read-next : tie.Need-shared-slice-read-next Inv-loop μ-loop
-shared-slice-read-next c = search needs
 
 next-requires : tie.Need-next-requires Inv-loop μ-loop
 next-requires c κs = rule
@@ -56,13 +52,4 @@ returns c =
 pub crc-spec : {M : Type 1} → statement M
 crc-spec =
     tie.close
-    (tie.spec
-    Inv-loop
-    μ-loop
-    loop-holds
-    shared-slice-read-next
-    next-requires
-    add-i
-    loop-less
-    loop-again
-    returns)
+    (tie.spec Inv-loop μ-loop loop-holds (λ c. search needs) next-requires add-i loop-less loop-again returns)

@@ -1,10 +1,9 @@
--- `crc::next` meets its contract.
--- Assumes nothing.
-use Prim.Native.Nat.{_*_, _^_, _/_, _<_}
+-- `crc::next` meets its contract. Assumes nothing.
+use Prim.Native.Nat.{_^_, _/_, _<_}
 use native.Mathlib.Omega.{arith}
 use lib.Bits.{bitXor}
-use Rattle.dst.proofs.CrcLaws.{byte-step, index-lt}
 use borrow.Author.Needs.{needs}
+use Rattle.dst.proofs.CrcLaws.{byte-step, index-lt}
 use Rattle.dst.proofs.crc.next.Statement.{statement}
 use Rattle.dst.proofs.crc.next.Tie as tie
 
@@ -13,9 +12,6 @@ small c = index-lt (c .args .r) (c .args .b) (c .fits .r .fits) (c .fits .b .fit
 
 cast-i : tie.Need-cast-i
 cast-i c = let h = small c in omega arith
-
-mul-result : tie.Need-mul-result
-mul-result c = search needs
 
 mul-result-2 : tie.Need-mul-result-2
 mul-result-2 c = let h = small c in omega arith
@@ -29,4 +25,6 @@ returns c =
     byte-step (s .args .r) (s .args .b) _ (s .fits .r .fits) (s .fits .b .fits) (s .pre (bitXor (s .args .r / 2 ^ 24) (s .args .b)) (small s))
 
 pub next-spec : {M : Type 1} → statement M
-next-spec = tie.close (tie.spec cast-i mul-result mul-result-2 element-copy-out-result returns)
+next-spec =
+    tie.close
+    (tie.spec cast-i (λ c. search needs) mul-result-2 element-copy-out-result returns)

@@ -1,28 +1,19 @@
--- `dsd_data::fill` meets its contract.
--- Assumes nothing.
-use Rattle.dst.proofs.DsdLaws.{sound-short, wanted-known, filled-contents}
-use Rattle.dst.proofs.PlaceLaws.{inside, byte-at}
-use Rattle.dst.specs.Positions.{positions, number}
-use Rattle.dst.specs.Frame.{frameBytes}
-use borrow.Author.Tests.{eq-eqb, ne-eqb}
-use lib.ListN.{length, replicate}
-use lib.Dec.{eqb}
+-- `dsd_data::fill` meets its contract. Assumes nothing.
+use mathlib.Core.Bool.{false}
+use mathlib.Core.Path.{_≡_, refl}
+use Prim.Native.Nat.{_*_, _-_, _^_, _≤_, _<_}
 use native.Mathlib.Omega.{arith}
 use native.Mathlib.Nat.{mul-le-mul-left}
-use Prim.Native.Nat.{_*_, _-_, _^_, _≤_, _<_}
-use mathlib.Core.Bool.{true, false}
-use mathlib.Core.Path.{_≡_, refl, sym, _∙_}
+use lib.ListN.{length, replicate}
+use lib.Dec.{eqb}
+use borrow.Author.Tests.{eq-eqb, ne-eqb}
 use borrow.Author.Needs.{needs}
+use Rattle.dst.specs.Positions.{positions, number}
+use Rattle.dst.specs.Frame.{frameBytes}
+use Rattle.dst.proofs.DsdLaws.{sound-short, wanted-known, filled-contents}
+use Rattle.dst.proofs.PlaceLaws.{inside, byte-at}
 use Rattle.dst.proofs.dsd_data.fill.Statement.{statement}
 use Rattle.dst.proofs.dsd_data.fill.Tie as tie
-use Rattle.dst.proofs.dsd_data.fill.Reads as reads
-use Rattle.dst.proofs.dsd_data.fill.Lts as lts
-use Rattle.dst.proofs.dsd_data.locate.Reads as locate-reads
-use Rattle.dst.proofs.dsd_data.touched.Reads as touched-reads
-use Rattle.dst.proofs.frame.frame_bytes.Reads as frame-bytes-reads
-use Rattle.dst.proofs.lent.filled.Reads as filled-reads
-use Rattle.dst.proofs.window.Window.put.Reads as put-reads
-use Rattle.dst.proofs.window.room.Reads as room-reads
 
 -- the sound is a number of 63 bits long
 short : (c : tie.After-frame-bytes) → c .frame-bytes .result * c .before .before .before .args .n < 2 ^ 63
@@ -31,44 +22,35 @@ short c =
     rw (c .frame-bytes .ensures) (sound-short (s .args .channels) (s .args .n) (s .fits .channels .fits) (s .fits .n .fits))
 
 -- the positions that were found are those that the read needs
-wanted : (c : tie.After-touched) → c .touched .result ≡ positions (replicate (c .before .before .before .before .before .before .args .n) (frameBytes (c .before .before .before .before .before .before .args .channels))) (c .before .before .before .before .before .before .args .w .skip) (length (c .before .before .before .before .before .before .args .out .now) - c .before .before .before .before .before .before .args .w .at)
+wanted : (c : tie.After-touched) → let a = c .before .before .before .before .before .before .args in
+    c .touched .result ≡ positions (replicate (a .n) (frameBytes (a .channels))) (a .w .skip) (length (a .out .now) - a .w .at)
 wanted c =
     let a = c .before .before .before .before .before .before .args in
     let f = c .before .before .before .frame-bytes in
     rw (← f .ensures, ← byte-at (replicate (a .n) (f .result)) (a .w .skip), ← c .before .before .locate .ensures, ← c .before .room .ensures) (c .touched .ensures)
 
-known : (c : tie.After-touched) → (c .touched .result .first ≤ c .touched .result .end) × (c .touched .result .end ≤ c .before .before .before .before .before .before .args .n)
+known : (c : tie.After-touched) → let a = c .before .before .before .before .before .before .args in
+    (c .touched .result .first ≤ c .touched .result .end) × (c .touched .result .end ≤ a .n)
 known c =
     let a = c .before .before .before .before .before .before .args in
     rw (wanted c) (wanted-known (frameBytes (a .channels)) (a .n) (a .contents .now) (a .w) (a .out .now))
 
 -- what is lent is what those positions have
-is-given : (c : tie.Else1) → frameBytes (c .before .before .before .before .before .before .before .args .channels) * number (positions (replicate (c .before .before .before .before .before .before .before .args .n) (frameBytes (c .before .before .before .before .before .before .before .args .channels))) (c .before .before .before .before .before .before .before .args .w .skip) (length (c .before .before .before .before .before .before .before .args .out .now) - c .before .before .before .before .before .before .before .args .w .at)) ≡ length (c .before .before .before .before .before .before .before .args .contents .now)
+is-given : (c : tie.Else1) → let a = c .before .before .before .before .before .before .before .args in
+    frameBytes (a .channels) * number (positions (replicate (a .n) (frameBytes (a .channels))) (a .w .skip) (length (a .out .now) - a .w .at)) ≡ length (a .contents .now)
 is-given c = rw (← wanted (c .before), ← c .before .before .before .before .frame-bytes .ensures) (c .if1 .left)
 
--- src/dsd_data.rt:87:9
-frame-bytes-requires : tie.Need-frame-bytes-requires
-frame-bytes-requires c κs = search needs
-
--- src/dsd_data.rt:88:9
 locate-requires : tie.Need-locate-requires
 locate-requires c κs = short c
 
--- src/dsd_data.rt:89:9
-room-requires : tie.Need-room-requires
-room-requires c κs = search needs
-
--- src/dsd_data.rt:90:9
 touched-requires : tie.Need-touched-requires
 touched-requires c κs =
     let a = c .before .before .before .before .before .args in
     rw (c .before .locate .ensures) (inside (replicate (a .n) (c .before .before .frame-bytes .result)) (a .w .skip))
 
--- src/dsd_data.rt:93:17
 sub-if1 : tie.Need-sub-if1
 sub-if1 c = let k = known c in omega (arith, k .0)
 
--- src/dsd_data.rt:93:8
 mul-if1 : tie.Need-mul-if1
 mul-if1 c =
     let k = known c in
@@ -77,34 +59,20 @@ mul-if1 c =
     let s = short (c .before .before .before) in
     omega (arith, m, s)
 
--- src/dsd_data.rt:94:9
 returns : tie.Need-returns
 returns c =
     let a = c .before .before .before .before .before .before .before .args in
-    let f : eqb (frameBytes (a .channels) * number (positions (replicate (c .before .before .before .before .before .before .before .args .n) (frameBytes (c .before .before .before .before .before .before .before .args .channels))) (c .before .before .before .before .before .before .before .args .w .skip) (length (c .before .before .before .before .before .before .before .args .out .now) - c .before .before .before .before .before .before .before .args .w .at))) (length (a .contents .now)) ≡ false =
+    let f : eqb (frameBytes (a .channels) * number (positions (replicate (a .n) (frameBytes (a .channels))) (a .w .skip) (length (a .out .now) - a .w .at))) (length (a .contents .now)) ≡ false =
     rw (← wanted (c .before), ← c .before .before .before .before .frame-bytes .ensures) (ne-eqb _ _ (c .if1 .taken)) in
     rw f (record { answer = refl; buffer = refl })
 
--- src/dsd_data.rt:100:9
-put-requires : tie.Need-put-requires
-put-requires c κs = search needs
-
--- src/dsd_data.rt:101:5
-filled-requires : tie.Need-filled-requires
-filled-requires c κs = search needs
-
--- src/dsd_data.rt:79:1
-same-length : tie.Need-same-length
-same-length c = search needs
-
--- src/dsd_data.rt:79:1
 returns-2 : tie.Need-returns-2
 returns-2 c =
     let e = c .before .before .before .before .before in
     let a = e .before .before .before .before .before .before .before .args in
     let f = e .before .before .before .before .frame-bytes in
     let g = is-given e in
-    let t = eq-eqb (frameBytes (a .channels) * number (positions (replicate (c .before .before .before .before .before .before .before .before .before .before .before .before .args .n) (frameBytes (c .before .before .before .before .before .before .before .before .before .before .before .before .args .channels))) (c .before .before .before .before .before .before .before .before .before .before .before .before .args .w .skip) (length (c .before .before .before .before .before .before .before .before .before .before .before .before .args .out .now) - c .before .before .before .before .before .before .before .before .before .before .before .before .args .w .at))) (length (a .contents .now)) g in
+    let t = eq-eqb (frameBytes (a .channels) * number (positions (replicate (a .n) (frameBytes (a .channels))) (a .w .skip) (length (a .out .now) - a .w .at))) (length (a .contents .now)) g in
     rw (t, c .filled .ensures, e .before .before .before .locate .ensures, f .ensures)
     (filled-contents (frameBytes (a .channels)) (a .n) (a .contents .now) (a .w) (a .out .now) g {v = c .before .before .before .put .result}
     (rw (← f .ensures, ← e .before .before .before .locate .ensures) (c .before .before .before .put .ensures)))
@@ -112,15 +80,5 @@ returns-2 c =
 pub fill-spec : {M : Type 1} → statement M
 fill-spec =
     tie.close
-    (tie.spec
-    frame-bytes-requires
-    locate-requires
-    room-requires
-    touched-requires
-    sub-if1
-    mul-if1
-    returns
-    put-requires
-    filled-requires
-    same-length
-    returns-2)
+    (tie.spec (λ c κs. tt) locate-requires (λ c κs. tt) touched-requires sub-if1 mul-if1 returns (λ c κs. tt)
+    (λ c κs. tt) (λ c. search needs) returns-2)

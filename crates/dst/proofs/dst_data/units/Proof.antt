@@ -1,26 +1,22 @@
--- `dst_data::units` meets its contract. The invariant: the units of the first k frames are put, and b and c are where the next frame's bytes and content begin.
--- Assumes nothing.
-use Rattle.dst.proofs.FillLaws.{code-within, content-within, next-unit}
-use Rattle.dst.proofs.WindowLaws.{nothing}
-use Rattle.dst.proofs.StartLaws.{sum-suc}
+-- `dst_data::units` meets its contract. The invariant: the units of the first k frames are put, and b and c are where the next frame's bytes and content begin. Assumes nothing.
+use mathlib.Core.List.{flatMap}
+use mathlib.Core.Path.{_≡_, refl, sym, ap, _∙_}
+use Prim.Native.Nat.{ℕ, _+_, _*_, _-_, _≤_, _<_}
+use native.Mathlib.Omega.{arith}
+use native.Mathlib.Numerals.{add-one}
+use native.Mathlib.Nat.{mul-suc, mul-zero}
+use lib.Seq.{take-all}
+use lib.ListN.{length, take, getD}
+use borrow.Author.Needs.{needs}
 use Rattle.dst.specs.Lent.{lentFrames}
 use Rattle.dst.specs.Window.{Wrote}
 use Rattle.dst.specs.Place.{sum}
 use Rattle.dst.specs.Unit.{sound}
-use borrow.Author.Needs.{needs}
-use lib.Seq.{take-all}
-use lib.ListN.{length, take, getD}
-use native.Mathlib.Omega.{arith}
-use native.Mathlib.Numerals.{add-one}
-use native.Mathlib.Nat.{mul-suc, mul-zero}
-use Prim.Native.Nat.{ℕ, _+_, _*_, _-_, _≤_, _<_}
-use mathlib.Core.List.{flatMap}
-use mathlib.Core.Path.{_≡_, refl, sym, ap, _∙_}
+use Rattle.dst.proofs.FillLaws.{code-within, content-within, next-unit}
+use Rattle.dst.proofs.WindowLaws.{nothing}
+use Rattle.dst.proofs.StartLaws.{sum-suc}
 use Rattle.dst.proofs.dst_data.units.Statement.{statement}
 use Rattle.dst.proofs.dst_data.units.Tie as tie
-use Rattle.dst.proofs.dst_data.units.Reads as reads
-use Rattle.dst.proofs.dst_data.units.Lts as lts
-use Rattle.dst.proofs.dst_data.unit.Reads as unit-reads
 
 abbrev Inv-loop : tie.InvT-loop
 Inv-loop out₀ crc lengths frames n contents v₀ k₀ b₀ c₀ out v k b c =
@@ -30,7 +26,6 @@ Inv-loop out₀ crc lengths frames n contents v₀ k₀ b₀ c₀ out v k b c =
 abbrev μ-loop : tie.MeasureT-loop
 μ-loop out₀ crc lengths frames n contents v₀ k₀ b₀ c₀ out v k b c = length lengths - k
 
--- src/dst_data.rt:93:5
 loop-holds : tie.Need-loop-holds Inv-loop μ-loop
 unfolding sound lentFrames flatMap sum
 loop-holds c = (omega arith, refl, sym (mul-zero _), refl, nothing _ _)
@@ -47,63 +42,21 @@ content-in c =
     let h = content-within (c .before .before .before .before .before .before .args .n) (length (c .before .before .before .before .before .before .args .lengths .now)) (c .before .loop .k) (c .loop-test .taken) in
     omega (arith, h, c .before .loop .inv .2, c .before .before .before .before .before .before .pre .1)
 
--- src/dst_data.rt:94:21
-mul-e : tie.Need-mul-e Inv-loop μ-loop
-mul-e c = search needs
-
--- src/dst_data.rt:94:21
-shared-slice-read-e : tie.Need-shared-slice-read-e Inv-loop μ-loop
-shared-slice-read-e c = search needs
-
--- src/dst_data.rt:94:21
 cast-e : tie.Need-cast-e Inv-loop μ-loop
 cast-e c = omega (arith, c .shared-slice-known4 .given (c .before .before .loop .k))
 
--- src/dst_data.rt:94:17
 add-e : tie.Need-add-e Inv-loop μ-loop
 add-e c = let h = bytes-in (c .before) in omega arith
 
--- src/dst_data.rt:95:17
 add-f : tie.Need-add-f Inv-loop μ-loop
 add-f c = let h = content-in (c .before) in omega arith
 
--- src/dst_data.rt:96:31
-sub-unit : tie.Need-sub-unit Inv-loop μ-loop
-sub-unit c = search needs
-
--- src/dst_data.rt:96:31
-part-unit-start : tie.Need-part-unit-start Inv-loop μ-loop
-part-unit-start c = search needs
-
--- src/dst_data.rt:96:31
 part-unit-end : tie.Need-part-unit-end Inv-loop μ-loop
 part-unit-end c = bytes-in (c .before .before)
 
--- src/dst_data.rt:96:46
-sub-unit-2 : tie.Need-sub-unit-2 Inv-loop μ-loop
-sub-unit-2 c = search needs
-
--- src/dst_data.rt:96:46
-part-unit-start-2 : tie.Need-part-unit-start-2 Inv-loop μ-loop
-part-unit-start-2 c = search needs
-
--- src/dst_data.rt:96:46
 part-unit-end-2 : tie.Need-part-unit-end-2 Inv-loop μ-loop
 part-unit-end-2 c = content-in (c .before .before .before)
 
--- src/dst_data.rt:96:9
-unit-requires : tie.Need-unit-requires Inv-loop μ-loop
-unit-requires c κs = search needs
-
--- src/dst_data.rt:99:9
-add-k : tie.Need-add-k Inv-loop μ-loop
-add-k c = search needs
-
--- src/dst_data.rt:93:5
-loop-less : tie.Need-loop-less Inv-loop μ-loop
-loop-less c = search needs
-
--- src/dst_data.rt:93:5
 loop-again : tie.Need-loop-again Inv-loop μ-loop
 loop-again c =
     let at-unit = c .before .before in
@@ -118,11 +71,9 @@ loop-again c =
       next-unit (a .crc) (a .n) (a .lengths .now) (a .frames .now) (a .contents .now) h (l .inv .1) (l .inv .2) (l .inv .4) (at-unit .unit .ensures),
     )
 
--- src/dst_data.rt:76:1
 same-length : tie.Need-same-length Inv-loop μ-loop
 same-length c = c .before .loop .inv .3
 
--- src/dst_data.rt:76:1
 returns : tie.Need-returns Inv-loop μ-loop
 returns c =
     let l = c .before .loop in
@@ -133,24 +84,6 @@ returns c =
 pub units-spec : {M : Type 1} → statement M
 units-spec =
     tie.close
-    (tie.spec
-    Inv-loop
-    μ-loop
-    loop-holds
-    mul-e
-    shared-slice-read-e
-    cast-e
-    add-e
-    add-f
-    sub-unit
-    part-unit-start
-    part-unit-end
-    sub-unit-2
-    part-unit-start-2
-    part-unit-end-2
-    unit-requires
-    add-k
-    loop-less
-    loop-again
-    same-length
-    returns)
+    (tie.spec Inv-loop μ-loop loop-holds (λ c. search needs) (λ c. search needs) cast-e add-e add-f (λ c. search needs) (λ c. search needs)
+    part-unit-end (λ c. search needs) (λ c. search needs) part-unit-end-2 (λ c κs. tt) (λ c. search needs) (λ c. search needs)
+    loop-again same-length returns)

@@ -10,4 +10,6 @@ unfolding frameBytes
 returns c = refl
 
 pub frame-bytes-spec : {M : Type 1} → statement M
-frame-bytes-spec = tie.close (tie.spec (λ c. search needs) returns)
+frame-bytes-spec =
+    tie.close
+    (tie.spec (λ c. search needs) returns)

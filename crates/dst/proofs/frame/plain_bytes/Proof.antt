@@ -13,4 +13,6 @@ unfolding plainBytes
 returns-2 c = rw (c .if1 .left) refl
 
 pub plain-bytes-spec : {M : Type 1} → statement M
-plain-bytes-spec = tie.close (tie.spec (λ c κs. tt) returns returns-2)
+plain-bytes-spec =
+    tie.close
+    (tie.spec (λ c κs. tt) returns returns-2)

@@ -1,7 +1,7 @@
 -- `head::frte` meets its contract. Assumes nothing.
 use mathlib.Core.Path.{_≡_}
-use borrow.Author.Needs.{needs}
 use lib.ListN.{length, length-append}
+use borrow.Author.Needs.{needs}
 use Rattle.chunk.specs.Name.{ascii}
 use Rattle.chunk.specs.Chunk.{pad}
 use Rattle.chunk.proofs.AppendLaws.{_then_, none}
@@ -22,4 +22,6 @@ returns c =
     chunked (ascii "FRTE") 6 six (c₁ .chunk-head .ensures) (c₂ .be32 .ensures then c₃ .be16 .ensures) (none (search needs) (search needs))
 
 pub frte-spec : {M : Type 1} → statement M
-frte-spec = tie.close (tie.spec (λ c κs. tt) (λ c κs. tt) (λ c κs. tt) (λ c. search needs) returns)
+frte-spec =
+    tie.close
+    (tie.spec (λ c κs. tt) (λ c κs. tt) (λ c κs. tt) (λ c. search needs) returns)

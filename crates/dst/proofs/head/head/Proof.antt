@@ -1,12 +1,12 @@
 -- `head::head` meets its contract. Assumes nothing.
-use borrow.Author.Needs.{needs}
-use denote.Ref.{now}
 use lib.ListN.{length}
+use borrow.Author.Needs.{needs}
 use Rattle.chunk.proofs.AppendLaws.{_then_}
 use Rattle.dst.specs.Head.{head, frte, rate}
 use Rattle.dst.proofs.LowLaws.{be-mod}
 use Rattle.dst.proofs.head.head.Statement.{statement}
 use Rattle.dst.proofs.head.head.Tie as tie
+use denote.Ref.{now}
 
 returns : tie.Need-returns
 unfolding head frte rate
@@ -19,4 +19,5 @@ returns c =
 
 pub head-spec : {M : Type 1} → statement M
 head-spec =
-    tie.close (tie.spec (λ c κs. tt) (λ c κs. tt) (λ c. search needs) (λ c κs. tt) (λ c. search needs) returns)
+    tie.close
+    (tie.spec (λ c κs. tt) (λ c κs. tt) (λ c. search needs) (λ c κs. tt) (λ c. search needs) returns)

@@ -10,4 +10,6 @@ unfolding entry
 returns c = c .before .before .before .before .before .before .be64 .ensures then c .before .before .be32 .ensures
 
 pub entry-spec : {M : Type 1} → statement M
-entry-spec = tie.close (tie.spec (λ c κs. tt) (λ c κs. tt) (λ c. search needs) returns)
+entry-spec =
+    tie.close
+    (tie.spec (λ c κs. tt) (λ c κs. tt) (λ c. search needs) returns)

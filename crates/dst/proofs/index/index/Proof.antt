@@ -1,13 +1,11 @@
--- `index::index` meets its contract. The loop's invariant: the entries of the first i frames are appended, and `at` is where frame i's
--- entry leads. Assumes nothing.
+-- `index::index` meets its contract. The loop's invariant: the entries of the first i frames are appended, and `at` is where frame i's entry leads. Assumes nothing.
 use mathlib.Core.Path.{_≡_}
 use Prim.Native.Nat.{_-_, _≤_}
 use native.Mathlib.Numerals.{add-one}
 use native.Mathlib.Omega.{arith}
-use borrow.Author.Needs.{needs}
-use denote.Ref.{now}
 use lib.ListN.{length, take}
 use lib.Seq.{take-all}
+use borrow.Author.Needs.{needs}
 use Rattle.chunk.specs.Append.{Appended, moved}
 use Rattle.chunk.proofs.AppendLaws.{_then_, none}
 use Rattle.dst.specs.Unit.{sizes}
@@ -18,6 +16,7 @@ use Rattle.dst.proofs.UnitLaws.{start-next}
 use Rattle.dst.proofs.IndexLaws.{index-more}
 use Rattle.dst.proofs.index.index.Statement.{statement}
 use Rattle.dst.proofs.index.index.Tie as tie
+use denote.Ref.{now}
 
 abbrev Inv-loop : tie.InvT-loop
 Inv-loop out₀ crc base lengths p₀ at₀ i₀ out p at i =

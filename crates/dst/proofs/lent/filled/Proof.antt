@@ -10,4 +10,6 @@ returns-2 : tie.Need-returns-2
 returns-2 c = rw (le-ltb (c .before .before .args .place .position) (c .before .before .args .n) (c .if1 .left))
 
 pub filled-spec : {M : Type 1} → statement M
-filled-spec = tie.close (tie.spec returns returns-2)
+filled-spec =
+    tie.close
+    (tie.spec returns returns-2)

@@ -1,6 +1,5 @@
 -- `lent::is_lent` meets its contract. Assumes nothing.
 use native.Mathlib.Omega.{arith}
-use borrow.Author.Needs.{needs}
 use Rattle.dst.proofs.LentLaws.{lent-tested}
 use Rattle.dst.proofs.lent.is_lent.Statement.{statement}
 use Rattle.dst.proofs.lent.is_lent.Tie as tie
@@ -12,4 +11,6 @@ returns c =
     (lent-tested (a .w) (a .needed .now) (a .lengths .now) (a .frames .now) (a .contents .now) (omega arith))
 
 pub is-lent-spec : {M : Type 1} → statement M
-is-lent-spec = tie.close (tie.spec (λ c κs. search needs) (λ c κs. search needs) (λ c κs. search needs) returns)
+is-lent-spec =
+    tie.close
+    (tie.spec (λ c κs. tt) (λ c κs. tt) (λ c κs. tt) returns)

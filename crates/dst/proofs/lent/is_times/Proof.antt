@@ -13,4 +13,6 @@ returns-2 : tie.Need-returns-2
 returns-2 c = times (c .before .args .bytes) (c .before .args .w) (c .before .args .n) (omega arith)
 
 pub is-times-spec : {M : Type 1} → statement M
-is-times-spec = tie.close (tie.spec returns (λ c. search needs) (λ c. search needs) returns-2)
+is-times-spec =
+    tie.close
+    (tie.spec returns (λ c. search needs) (λ c. search needs) returns-2)

@@ -1,18 +1,14 @@
--- `place::locate` meets its contract. The invariant: from frame k on, `within` is the place that is sought.
--- Assumes nothing.
-use Rattle.dst.proofs.WalkLaws.{walk-starts, walk-here, walk-on, walk-past}
+-- `place::locate` meets its contract. The invariant: from frame k on, `within` is the place that is sought. Assumes nothing.
+use mathlib.Core.Path.{_≡_}
+use Prim.Native.Nat.{_≤_, _+_, _-_}
+use native.Mathlib.Omega.{arith}
+use lib.ListN.{length}
+use borrow.Author.Needs.{needs}
 use Rattle.dst.specs.Place.{start}
 use Rattle.dst.specs.Unit.{unitSize, sizes}
-use borrow.Author.Needs.{needs}
-use lib.ListN.{length, getD}
-use mathlib.Core.Path.{_≡_}
-use Prim.Native.Nat.{_≤_, _<_, _+_, _-_}
-use native.Mathlib.Omega.{arith}
+use Rattle.dst.proofs.WalkLaws.{walk-starts, walk-here, walk-on, walk-past}
 use Rattle.dst.proofs.place.locate.Statement.{statement}
 use Rattle.dst.proofs.place.locate.Tie as tie
-use Rattle.dst.proofs.place.locate.Reads as reads
-use Rattle.dst.proofs.place.locate.Lts as lts
-use Rattle.dst.proofs.unit.unit_size.Reads as unit-size-reads
 
 abbrev Inv-loop : tie.InvT-loop
 Inv-loop crc lengths place k₀ within₀ k within = (k ≤ length lengths) × (start (sizes crc lengths) k + within ≡ place)
@@ -20,45 +16,21 @@ Inv-loop crc lengths place k₀ within₀ k within = (k ≤ length lengths) × (
 abbrev μ-loop : tie.MeasureT-loop
 μ-loop crc lengths place k₀ within₀ k within = length lengths - k
 
--- src/place.rt:27:5
 loop-holds : tie.Need-loop-holds Inv-loop μ-loop
 loop-holds c = (omega arith, walk-starts (unitSize (c .before .args .crc)) (c .before .args .lengths .now) (c .before .args .place))
 
--- src/place.rt:28:35
-mul-unit-size : tie.Need-mul-unit-size Inv-loop μ-loop
-mul-unit-size c = search needs
-
--- src/place.rt:28:35
-shared-slice-read-unit-size : tie.Need-shared-slice-read-unit-size Inv-loop μ-loop
-shared-slice-read-unit-size c = search needs
-
--- src/place.rt:28:13
-unit-size-requires : tie.Need-unit-size-requires Inv-loop μ-loop
-unit-size-requires c κs = search needs
-
--- src/place.rt:30:13
 returns : tie.Need-returns Inv-loop μ-loop
 returns c =
     let l = c .before .before .before .before .loop in
     let a = c .before .before .before .before .before .before .args in
     walk-here (unitSize (a .crc)) (a .lengths .now) (a .place) (l .k) (l .within) (l .inv .1) (c .before .before .before .loop-test .taken) (rw (c .before .unit-size .ensures) at (c .if1 .taken))
 
--- src/place.rt:36:9
-add-k : tie.Need-add-k Inv-loop μ-loop
-add-k c = search needs
-
--- src/place.rt:27:5
-loop-less : tie.Need-loop-less Inv-loop μ-loop
-loop-less c = search needs
-
--- src/place.rt:27:5
 loop-again : tie.Need-loop-again Inv-loop μ-loop
 loop-again c =
     let l = c .before .before .before .before .loop in
     let a = c .before .before .before .before .before .before .args in
     (omega arith, rw (c .before .unit-size .ensures) (walk-on (unitSize (a .crc)) (a .lengths .now) (a .place) (l .k) (l .within) (l .inv .1) (c .before .before .before .loop-test .taken) (rw (c .before .unit-size .ensures) at (c .if1 .left))))
 
--- src/place.rt:22:1
 returns-2 : tie.Need-returns-2 Inv-loop μ-loop
 returns-2 c =
     let l = c .before .loop in
@@ -68,15 +40,5 @@ returns-2 c =
 pub locate-spec : {M : Type 1} → statement M
 locate-spec =
     tie.close
-    (tie.spec
-    Inv-loop
-    μ-loop
-    loop-holds
-    mul-unit-size
-    shared-slice-read-unit-size
-    unit-size-requires
-    returns
-    add-k
-    loop-less
-    loop-again
-    returns-2)
+    (tie.spec Inv-loop μ-loop loop-holds (λ c. search needs) (λ c. search needs) (λ c κs. tt) returns (λ c. search needs)
+    (λ c. search needs) loop-again returns-2)

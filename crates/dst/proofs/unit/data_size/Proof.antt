@@ -9,4 +9,6 @@ unfolding dataSize
 returns c = omega (arith, c .plus .ensures, c .before .units .ensures)
 
 pub data-size-spec : {M : Type 1} → statement M
-data-size-spec = tie.close (tie.spec (λ c κs. tt) (λ c κs. tt) returns)
+data-size-spec =
+    tie.close
+    (tie.spec (λ c κs. tt) (λ c κs. tt) returns)

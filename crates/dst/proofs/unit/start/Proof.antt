@@ -1,14 +1,14 @@
 -- `unit::start` meets its contract. Assumes nothing.
 use native.Mathlib.Nat.{sub-zero}
 use native.Mathlib.Omega.{arith}
-use borrow.Author.Needs.{needs}
-use denote.Ref.{now}
 use lib.ListN.{length-map}
+use borrow.Author.Needs.{needs}
 use Rattle.dst.specs.Unit.{unitSize, sizes}
 use Rattle.dst.proofs.StartLaws.{start-all}
 use Rattle.dst.proofs.UnitLaws.{start-front}
 use Rattle.dst.proofs.unit.start.Statement.{statement}
 use Rattle.dst.proofs.unit.start.Tie as tie
+use denote.Ref.{now}
 
 returns : tie.Need-returns
 returns c = rw start-front (rw sub-zero at (c .units .ensures))
@@ -21,4 +21,5 @@ returns-2 c =
 
 pub start-spec : {M : Type 1} → statement M
 start-spec =
-    tie.close (tie.spec (λ c. search needs) (λ c. search needs) (λ c. search needs) (λ c κs. tt) returns (λ c κs. tt) returns-2)
+    tie.close
+    (tie.spec (λ c. search needs) (λ c. search needs) (λ c. search needs) (λ c κs. tt) returns (λ c κs. tt) returns-2)

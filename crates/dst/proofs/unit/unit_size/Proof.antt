@@ -18,4 +18,6 @@ unfolding unitSize occupied
 returns-2 c = rw (c .if1 .left) (omega (arith, c .before .occupied .ensures))
 
 pub unit-size-spec : {M : Type 1} → statement M
-unit-size-spec = tie.close (tie.spec (λ c κs. tt) add-result returns returns-2)
+unit-size-spec =
+    tie.close
+    (tie.spec (λ c κs. tt) add-result returns returns-2)

@@ -3,15 +3,15 @@ use mathlib.Core.Path.{_≡_}
 use Prim.Native.Nat.{_-_, _^_, _≤_, min}
 use native.Mathlib.Numerals.{add-one}
 use native.Mathlib.Omega.{arith}
-use borrow.Author.Needs.{needs}
-use denote.Ref.{now}
 use lib.ListN.{length, length-map}
+use borrow.Author.Needs.{needs}
 use Rattle.dst.specs.Unit.{unitSize, sizes}
 use Rattle.dst.specs.Place.{start}
 use Rattle.dst.proofs.StartLaws.{start-zero, start-all}
 use Rattle.dst.proofs.UnitLaws.{start-next}
 use Rattle.dst.proofs.unit.units.Statement.{statement}
 use Rattle.dst.proofs.unit.units.Tie as tie
+use denote.Ref.{now}
 
 abbrev Inv-loop : tie.InvT-loop
 Inv-loop crc lengths all₀ i₀ all i = (i ≤ length lengths) × (all ≡ min (start (sizes crc lengths) i) (2 ^ 64 - 1))

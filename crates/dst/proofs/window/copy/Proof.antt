@@ -1,5 +1,4 @@
--- `window::copy` meets its contract. The loop's invariant: the first i bytes are those of src, the others are as they were.
--- Assumes nothing.
+-- `window::copy` meets its contract. The loop's invariant: the first i bytes are those of src, the others are as they were. Assumes nothing.
 use mathlib.Core.Path.{_≡_, refl, ap}
 use mathlib.Core.List.{List, [], _∷_, _++_}
 use Prim.Native.Nat.{ℕ, zero, suc, _-_, _≤_, _<_}

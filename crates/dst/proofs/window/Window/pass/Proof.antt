@@ -12,4 +12,6 @@ returns-2 c =
     rw (← h)
 
 pub pass-spec : {M : Type 1} → statement M
-pass-spec = tie.close (tie.spec (λ c. search needs) returns-2)
+pass-spec =
+    tie.close
+    (tie.spec (λ c. search needs) returns-2)
