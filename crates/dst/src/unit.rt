@@ -12,7 +12,7 @@ use chunk::chunks::occupied;
 const DSTC: u64 = 16;
 
 // The sum, at most the largest u64.
-pub fn plus(a: u64, b: u64) -> u64
+pub(crate) fn plus(a: u64, b: u64) -> u64
     ensures { λ r. ⌜ r ≡ moved a b ⌝ }
 {
     if b <= u64::MAX - a {
