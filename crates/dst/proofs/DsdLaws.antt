@@ -13,13 +13,13 @@ use lib.Seq.{length-take-le, take-at, drop-at}
 use Rattle.chunk.specs.Extent.{firstRows}
 use Rattle.dst.specs.declared.place.Place.{Place}
 use Rattle.dst.specs.declared.place.Positions.{Positions}
-use Rattle.dst.specs.Frame.{frameBytes}
+use Rattle.dst.specs.Frame.{frameBytes, dsdSound}
 use Rattle.dst.specs.Place.{sum, start, placeOf, Inside}
 use Rattle.dst.specs.declared.window.Window.{Window}
 use Rattle.dst.specs.declared.lent.Fill.the-variants.{Filled}
 use Rattle.dst.specs.Positions.{positions, number, between}
 use Rattle.dst.specs.Window.{Wrote, Filling}
-use Rattle.dst.specs.Lent.{dsdSound, contentsWith}
+use Rattle.dst.specs.Lent.{contentsWith}
 use Rattle.dst.proofs.PlaceLaws.{lt-or-le, place-is, place-end}
 use Rattle.dst.proofs.PositionsLaws.{Nothing, Some, positions-are, positions-known, touching}
 use Rattle.dst.proofs.PartLaws.{part-filled}

@@ -15,13 +15,13 @@ use Rattle.chunk.specs.Tree.{stop, leaf, bytes}
 use Rattle.chunk.proofs.NumberLaws.{length-be, num-be}
 use Rattle.dst.specs.Crc.{crcOf}
 use Rattle.dst.specs.Frame.{Frame}
-use Rattle.dst.specs.Unit.{unit, unitBytes, sound, unitSize, sizes}
+use Rattle.dst.specs.Unit.{lengths, unit, unitBytes, sound, unitSize, sizes}
 use Rattle.dst.specs.Place.{sum, start}
 use Rattle.dst.specs.Head.{head}
-use Rattle.dst.specs.Index.{shiftOf, entry, index}
+use Rattle.dst.specs.Index.{shiftOf, entry, index, Stands}
 use Rattle.dst.specs.declared.index.DstIndexOffset.{DstIndexOffset}
 use Rattle.dst.proofs.SaturateLaws.{moved-moved, moved-zero, moved-lt, moved-fits}
-use Rattle.dst.proofs.UnitLaws.{lengths, length-unit, length-frte}
+use Rattle.dst.proofs.UnitLaws.{length-unit, length-frte}
 
 -- one entry more
 pub index-more : (crc : Bool) (at : ℕ) (ls : List ℕ) (i : ℕ) → at < 2 ^ 64 → i < length ls
@@ -80,10 +80,6 @@ pub entry-length : (crc : Bool) (at : ℕ) (ls : List ℕ) (i : ℕ) → at < 2 
 entry-length crc at ls i s h short =
     rw (← drop-drop 8 (12 * i) (index crc at ls), entry-first crc at ls i s h, drop-at (be 8 (moved at (start (sizes crc ls) i))) _ 8 (length-be 8 _), take-at (be 4 (getD ls i 0)) _ 4 (length-be 4 _))
     (num-be 4 _ short)
-
--- at a place of a file stands x
-abbrev pub Stands : List ℕ → ℕ → List ℕ → Type 0
-Stands file place x = take (length x) (drop place file) ≡ x
 
 -- the sound, cut before and after the DSTF of frame i
 record Cut (crc : Bool) (fs : List Frame) (i : ℕ) (d : Frame) : Type 0 where

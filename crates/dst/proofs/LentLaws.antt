@@ -12,9 +12,10 @@ use borrow.Author.Tests.{eqb-true}
 use Rattle.chunk.specs.Name.{same}
 use Rattle.dst.specs.declared.place.Positions.{Positions}
 use Rattle.dst.specs.Frame.{Frame}
+use Rattle.dst.specs.Unit.{lengths}
 use Rattle.dst.specs.Place.{sum}
 use Rattle.dst.specs.Positions.{between}
-use Rattle.dst.specs.Lent.{isLent, lentFrames, zeroFrame, framesWith}
+use Rattle.dst.specs.Lent.{isLent, lentFrames, zeroFrame, framesWith, codes, contents, Even}
 use Rattle.dst.proofs.TestLaws.{and-left, and-right, stopped}
 use Rattle.dst.proofs.SameLaws.{same-true}
 
@@ -42,7 +43,7 @@ lent-lengths n needed lengths frames contents h =
 
 -- the codes of what is lent have these lengths
 pub lent-codes : (n : ℕ) (ls frames contents : List ℕ) → sum ls ≤ length frames
-    → map (λ (f : Frame). length (f .code)) (lentFrames n ls frames contents) ≡ ls
+    → lengths (lentFrames n ls frames contents) ≡ ls
 unfolding lentFrames sum
 lent-codes n [] frames contents h = refl
 lent-codes n (l ∷ ls) frames contents h =
@@ -70,7 +71,7 @@ lent-suc n (l ∷ ls) frames contents (suc k) h =
     (lent-suc n ls (drop l frames) (drop n contents) k (le-of-suc-le-suc h)))
 
 -- frames of zeros have these lengths
-pub zero-codes : (n : ℕ) (ls : List ℕ) → map (λ (f : Frame). length (f .code)) (map (zeroFrame n) ls) ≡ ls
+pub zero-codes : (n : ℕ) (ls : List ℕ) → lengths (map (zeroFrame n) ls) ≡ ls
 unfolding zeroFrame
 zero-codes n [] = refl
 zero-codes n (l ∷ ls) = rw (length-replicate {A = ℕ} l 0, zero-codes n ls)
@@ -78,7 +79,7 @@ zero-codes n (l ∷ ls) = rw (length-replicate {A = ℕ} l 0, zero-codes n ls)
 -- the codes of a file's frames have its lengths, if those lent have theirs
 pub with-codes : (n : ℕ) (p : Positions) (ls frames contents : List ℕ)
     → sum (between p ls) ≡ length frames → p .first ≤ p .end
-    → map (λ (f : Frame). length (f .code)) (framesWith n p ls frames contents) ≡ ls
+    → lengths (framesWith n p ls frames contents) ≡ ls
 unfolding framesWith
 with-codes n p ls frames contents s h =
     let codes : Frame → ℕ = λ f. length (f .code) in
@@ -95,14 +96,9 @@ with-codes n p ls frames contents s h =
     )
     (take-append-drop (p .end) ls)
 
--- frames whose contents have n bytes each
-abbrev pub Even : ℕ → List Frame → Type 0
-Even n [] = Unit {0}
-Even n (f ∷ fs) = (length (f .content) ≡ n) × Even n fs
-
 -- cutting the joined bytes of frames gives the frames back
 pub lent-real : (n : ℕ) (fs : List Frame) → Even n fs
-    → lentFrames n (map (λ (f : Frame). length (f .code)) fs) (flatMap (λ (f : Frame). f .code) fs) (flatMap (λ (f : Frame). f .content) fs) ≡ fs
+    → lentFrames n (lengths fs) (codes fs) (contents true fs) ≡ fs
 unfolding lentFrames flatMap
 lent-real n [] e = refl
 lent-real n (f ∷ fs) e =

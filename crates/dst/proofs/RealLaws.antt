@@ -1,7 +1,7 @@
 -- THE READ OF A REAL FILE. A read's contract speaks of the file with zeros for what is not lent. Where what is lent are the needed frames of a
 -- real file, it is accepted, and what it shows is the real file's. Assumes nothing.
 use mathlib.Core.Path.{_≡_, refl, sym, ap, _∙_}
-use mathlib.Core.Bool.{Bool, true, false, cond}
+use mathlib.Core.Bool.{Bool, true, false}
 use mathlib.Core.List.{List, [], _∷_, map, flatMap}
 use Prim.Native.Nat.{ℕ, zero, suc, _-_, _*_, _≤_}
 use native.Mathlib.Nat.{mul-zero, zero-mul, mul-suc, add-comm}
@@ -13,30 +13,18 @@ use lib.Seq.{slice, take-at, drop-at}
 use Rattle.dst.specs.declared.window.Window.{Window}
 use Rattle.dst.specs.declared.place.Positions.{Positions}
 use Rattle.dst.specs.declared.lent.Fill.{Fill}
-use Rattle.dst.specs.Frame.{Frame, frameBytes, plainBytes}
-use Rattle.dst.specs.Unit.{unitBytes, sound, sizes}
+use Rattle.dst.specs.Frame.{Frame, frameBytes, plainBytes, dsdSound}
+use Rattle.dst.specs.Unit.{unitBytes, sound, lengths, sizes}
 use Rattle.dst.specs.Place.{sum}
 use Rattle.dst.specs.Positions.{positions, between, number}
 use Rattle.dst.specs.Window.{Filling}
-use Rattle.dst.specs.Lent.{isLent, lentFrames, framesWith, dsdSound, contentsWith}
+use Rattle.dst.specs.Lent.{isLent, lentFrames, framesWith, contentsWith, codes, contents, Even, Plain}
 use Rattle.dst.proofs.SameLaws.{same-refl}
-use Rattle.dst.proofs.UnitLaws.{lengths, unit-plain, sizes-of}
-use Rattle.dst.proofs.LentLaws.{Even, lent-real}
+use Rattle.dst.proofs.UnitLaws.{unit-plain, sizes-of}
+use Rattle.dst.proofs.LentLaws.{lent-real}
 use Rattle.dst.proofs.PartLaws.{map-take, part-real, length-joined}
 use Rattle.dst.proofs.DsdLaws.{sum-replicate, take-replicate, frames-touched, with-sizes, with-rows, rows-joined, wanted-known}
 use Rattle.dst.proofs.FillLaws.{units-touched, sizes-with, between-with}
-
--- what frames lend: their DST bytes joined and, with CRC on, their plain contents joined
-abbrev pub codes : List Frame → List ℕ
-codes fs = flatMap (λ (f : Frame). f .code) fs
-
-abbrev pub contents : Bool → List Frame → List ℕ
-contents crc fs = cond crc (flatMap (λ (f : Frame). f .content) fs) []
-
--- with CRC on, each plain content has a frame's length
-abbrev pub Plain : Bool → ℕ → List Frame → Type 0
-Plain true channels fs = Even (frameBytes channels) fs
-Plain false channels fs = Unit {0}
 
 even-take : (n k : ℕ) (fs : List Frame) → Even n fs → Even n (take k fs)
 even-take n zero fs e = tt

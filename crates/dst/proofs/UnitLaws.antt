@@ -14,15 +14,11 @@ use Rattle.chunk.proofs.ChunkLaws.{length-chunk, pad-even}
 use Rattle.chunk.proofs.TreeLaws.{bytes-join}
 use Rattle.dst.specs.Crc.{crcOf}
 use Rattle.dst.specs.Frame.{Frame}
-use Rattle.dst.specs.Unit.{unit, unitBytes, units, sound, unitSize, sizes}
+use Rattle.dst.specs.Unit.{lengths, unit, unitBytes, units, sound, unitSize, sizes}
 use Rattle.dst.specs.Place.{sum, start}
 use Rattle.dst.specs.Head.{rate, frte, dataSize, head, dst}
 use Rattle.dst.proofs.SaturateLaws.{moved-fits}
 use Rattle.dst.proofs.StartLaws.{start-suc, size-at}
-
--- how many DST bytes each frame has
-abbrev pub lengths : List Frame → List ℕ
-lengths fs = map (λ (f : Frame). length (f .code)) fs
 
 -- a unit is its DSTF and, with CRC on, its DSTC
 pub unit-plain : (f : Frame) → unitBytes false f ≡ chunk (ascii "DSTF") (f .code)

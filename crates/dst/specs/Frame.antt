@@ -1,7 +1,7 @@
 -- The frames of the sound (01: "a frame has 4,704 bytes a channel"). Assumes nothing.
 use Prim.Native.Nat.{ℕ, _*_}
 use mathlib.Core.Bool.{Bool, cond}
-use mathlib.Core.List.{List}
+use mathlib.Core.List.{List, flatMap}
 
 -- bytes of a frame's plain content
 unfoldable pub frameBytes : ℕ → ℕ
@@ -15,3 +15,7 @@ plainBytes crc channels = cond crc (frameBytes channels) 0
 pub record Frame : Type 0 where
   pub code : List ℕ
   pub content : List ℕ
+
+-- DSD sound: the contents of its positions, one after the other
+unfoldable pub dsdSound : List (List ℕ) → List ℕ
+dsdSound contents = flatMap (λ c. c) contents

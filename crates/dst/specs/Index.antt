@@ -1,8 +1,10 @@
 -- The index of the frames (01: "DSTI holds per frame an 8-byte offset of the DSTF header (12 more under `FrameData`) and a 4-byte length").
 -- Assumes nothing.
 use Prim.Native.Nat.{ℕ}
+use mathlib.Core.Path.{_≡_}
 use mathlib.Core.Bool.{Bool}
 use mathlib.Core.List.{List, [], _∷_, _++_}
+use lib.ListN.{length, take, drop}
 use Rattle.chunk.specs.Append.{moved}
 use Rattle.chunk.specs.Number.{be}
 use Rattle.dst.specs.Unit.{unitSize}
@@ -22,3 +24,7 @@ entry offset l = be 8 offset ++ be 4 l
 unfoldable pub index : Bool → ℕ → List ℕ → List ℕ
 index crc at [] = []
 index crc at (l ∷ ls) = entry at l ++ index crc (moved at (unitSize crc l)) ls
+
+-- at a place of a file stands x
+abbrev pub Stands : List ℕ → ℕ → List ℕ → Type 0
+Stands file place x = take (length x) (drop place file) ≡ x

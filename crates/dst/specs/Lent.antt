@@ -1,13 +1,14 @@
 -- The file that a read is of, as far as what is lent says: zeros stand for the frames that it does not need. Assumes nothing.
 use Prim.Native.Nat.{ℕ, _*_, _-_}
-use mathlib.Core.Bool.{Bool, _&&_}
+use mathlib.Core.Path.{_≡_}
+use mathlib.Core.Bool.{Bool, true, false, cond, _&&_}
 use mathlib.Core.List.{List, [], _∷_, _++_, map, flatMap}
 use lib.Dec.{eqb}
 use lib.ListN.{length, take, drop, replicate}
 use Rattle.chunk.specs.Name.{same}
 use Rattle.chunk.specs.Extent.{firstRows}
 use Rattle.dst.specs.declared.place.Positions.{Positions}
-use Rattle.dst.specs.Frame.{Frame}
+use Rattle.dst.specs.Frame.{Frame, frameBytes}
 use Rattle.dst.specs.Place.{sum}
 use Rattle.dst.specs.Positions.{number, between}
 
@@ -31,11 +32,24 @@ unfoldable pub framesWith : ℕ → Positions → List ℕ → List ℕ → List
 framesWith n p ls frames contents =
     map (zeroFrame n) (take (p .first) ls) ++ lentFrames n (between p ls) frames contents ++ map (zeroFrame n) (drop (p .end) ls)
 
--- DSD sound: the contents of its positions, one after the other
-unfoldable pub dsdSound : List (List ℕ) → List ℕ
-dsdSound contents = flatMap (λ c. c) contents
-
 -- the contents of n positions, of frame bytes each, of which those of some positions are lent
 unfoldable pub contentsWith : ℕ → Positions → ℕ → List ℕ → List (List ℕ)
 contentsWith frame p n contents =
     replicate (p .first) (replicate frame 0) ++ firstRows frame (number p) contents ++ replicate (n - p .end) (replicate frame 0)
+
+-- What the needed frames of a real file lend: their lengths (`lengths`), their DST bytes joined and, with CRC on, their plain contents joined.
+abbrev pub codes : List Frame → List ℕ
+codes fs = flatMap (λ (f : Frame). f .code) fs
+
+abbrev pub contents : Bool → List Frame → List ℕ
+contents crc fs = cond crc (flatMap (λ (f : Frame). f .content) fs) []
+
+-- frames whose contents have n bytes each
+abbrev pub Even : ℕ → List Frame → Type 0
+Even n [] = Unit {0}
+Even n (f ∷ fs) = (length (f .content) ≡ n) × Even n fs
+
+-- with CRC on, each content has a frame's length
+abbrev pub Plain : Bool → ℕ → List Frame → Type 0
+Plain true channels fs = Even (frameBytes channels) fs
+Plain false channels fs = Unit {0}

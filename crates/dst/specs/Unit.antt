@@ -2,6 +2,7 @@
 use Prim.Native.Nat.{ℕ, _+_}
 use mathlib.Core.Bool.{Bool, cond}
 use mathlib.Core.List.{List, [], _∷_, map, flatMap}
+use lib.ListN.{length}
 use Rattle.chunk.specs.Number.{be}
 use Rattle.chunk.specs.Name.{ascii}
 use Rattle.chunk.specs.Chunk.{occupied}
@@ -24,6 +25,10 @@ units crc (f ∷ fs) = join (unit crc f) (units crc fs)
 -- the sound: every frame's unit
 unfoldable pub sound : Bool → List Frame → List ℕ
 sound crc fs = flatMap (unitBytes crc) fs
+
+-- how many DST bytes each frame has
+abbrev pub lengths : List Frame → List ℕ
+lengths fs = map (λ (f : Frame). length (f .code)) fs
 
 -- what a frame of so many DST bytes occupies
 unfoldable pub unitSize : Bool → ℕ → ℕ
