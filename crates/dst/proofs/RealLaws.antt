@@ -108,6 +108,7 @@ module _ (crc : Bool) (channels : ℕ) (fs : List Frame) (plain : Plain crc chan
   given : isLent (plainBytes crc channels) (between needs (lengths fs)) (lengths some) (codes some) (contents crc some) ≡ true
   given = rw (← lengths-some) (lent-given crc channels some plain-some)
 
+  -- what `dst_data::fill` promises of those frames is a read of the file
   pub read-real : {last : List ℕ} {r : Fill}
       → Filling (isLent (plainBytes crc channels) (between needs (lengths fs)) (lengths some) (codes some) (contents crc some))
       (sound crc (framesWith (plainBytes crc channels) needs (lengths fs) (codes some) (contents crc some))) w out last r
@@ -150,6 +151,7 @@ module _ (channels : ℕ) (xs : List (List ℕ)) (even : map (λ (c : List ℕ).
       ∙ drop-replicate f (wants .end) (wants .first))
       ∙ sum-replicate f (number wants))
 
+  -- what `dsd_data::fill` promises of those contents is a read of the file
   pub read-real-dsd : {last : List ℕ} {r : Fill}
       → Filling (eqb (frameBytes channels * number wants) (length (dsdSound (between wants xs))))
       (dsdSound (contentsWith (frameBytes channels) wants (length xs) (dsdSound (between wants xs)))) w out last r
