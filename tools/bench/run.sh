@@ -9,13 +9,9 @@ usage() {
     exit 2
 }
 
-failed() {
-    echo "run.sh: $1" >&2
-    exit 2
-}
-
 here=$(cd "$(dirname "$0")" && pwd)
 root=$(cd "$here/../.." && pwd)
+. "$root/tools/library/prepare.sh"
 request=$root/../shared
 library=
 
@@ -29,22 +25,8 @@ while [ $# -gt 0 ]; do
     shift 2
 done
 
-# The original's files and the stand-ins, which this program compiles by itself.
-if [ ! -x "$root/target/oracle/target/release/scarletbook" ]; then
-    env -u CARGO_TARGET_DIR "$request/oracle/build.sh" "$request/docs/src" "$root/target/oracle" >&2 ||
-        failed "the original could not be built"
-fi
-
-if [ -z "$library" ]; then
-    (cd "$root" && rt staticlib abi) >&2 || failed "the library could not be built"
-    library=$root/target/staticlib/libabi.a
-fi
-[ -f "$library" ] || failed "no such file: $library"
-library=$(cd "$(dirname "$library")" && pwd)/$(basename "$library")
-
-CARGO_TARGET_DIR=$root/target/bench BENCH_LIBRARY=$library \
-    cargo build --quiet --release --offline --locked --manifest-path "$here/Cargo.toml" >&2 ||
-    failed "the program could not be built"
+prepare
+build bench
 
 status=0
 "$root/target/bench/release/bench" || status=$?

@@ -9,13 +9,9 @@ usage() {
     exit 2
 }
 
-failed() {
-    echo "run.sh: $1" >&2
-    exit 2
-}
-
 here=$(cd "$(dirname "$0")" && pwd)
 root=$(cd "$here/../.." && pwd)
+. "$root/tools/library/prepare.sh"
 seed=20240611
 count=20000
 request=$root/../shared
@@ -33,24 +29,10 @@ while [ $# -gt 0 ]; do
     shift 2
 done
 
-original=$root/target/oracle/target/release/scarletbook
-if [ ! -x "$original" ]; then
-    env -u CARGO_TARGET_DIR "$request/oracle/build.sh" "$request/docs/src" "$root/target/oracle" >&2 ||
-        failed "the original could not be built"
-fi
-
-if [ -z "$library" ]; then
-    (cd "$root" && rt staticlib abi) >&2 || failed "the library could not be built"
-    library=$root/target/staticlib/libabi.a
-fi
-[ -f "$library" ] || failed "no such file: $library"
-library=$(cd "$(dirname "$library")" && pwd)/$(basename "$library")
-
-CARGO_TARGET_DIR=$root/target/differential DIFFERENTIAL_LIBRARY=$library \
-    cargo build --quiet --release --offline --locked --manifest-path "$here/Cargo.toml" >&2 ||
-    failed "the comparison could not be built"
+prepare
+build differential
 
 status=0
-"$root/target/differential/release/differential" --seed "$seed" --count "$count" "$original" || status=$?
+"$root/target/differential/release/differential" --seed "$seed" --count "$count" "$root/target/oracle/target/release/scarletbook" || status=$?
 [ "$status" -le 2 ] || failed "the comparison ended with status $status"
 exit "$status"

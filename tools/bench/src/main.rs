@@ -1,11 +1,9 @@
 //! Times reads of the sound by this repository's compiled functions and by the original, side by side. README.md says
 //! what the columns mean.
 
-#![deny(unsafe_code, unsafe_op_in_unsafe_fn)]
+#![forbid(unsafe_code)]
 
 mod crc;
-#[allow(unsafe_code)]
-mod ours;
 mod pool;
 mod reads;
 mod sound;
@@ -13,6 +11,8 @@ mod timing;
 
 use std::hint::black_box;
 use std::process::ExitCode;
+
+use library::sound as ours;
 
 use pool::{CHANNELS, CONTENT_BYTES, POSITIONS, Pool};
 use reads::{Reads, Times};

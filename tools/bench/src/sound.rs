@@ -5,8 +5,8 @@ use std::ops::Range;
 
 use original::{Layout, RegionKind};
 
-use crate::ours::{self, Lent};
 use crate::pool::{CHANNELS, POSITIONS, Pool};
+use library::sound::{self as ours, Lent};
 
 #[derive(Clone, Copy)]
 pub enum Kind {

@@ -1,13 +1,11 @@
 //! Holds this repository's compiled functions against the original, over random cases from a seed. README.md says what
 //! is compared.
 
-#![deny(unsafe_code, unsafe_op_in_unsafe_fn)]
+#![forbid(unsafe_code)]
 
 mod calls;
 mod chunks;
 mod original;
-#[allow(unsafe_code)]
-mod ours;
 mod random;
 mod sound;
 mod subject;

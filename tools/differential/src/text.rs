@@ -7,9 +7,9 @@ use crate::calls::hold;
 use crate::chunks::{self, Chunk};
 use crate::hex;
 use crate::original::Answer;
-use crate::ours::{self, Conversion, Extent, Row, Switches, D2, REMOVE, REPLACE};
 use crate::random::Random;
 use crate::subject::{simplify_list, Disagreement, Fails, Halt, Subject};
+use library::text::{self as ours, Conversion, Extent, Row, Switches, D2, REMOVE, REPLACE};
 
 pub struct Text;
 

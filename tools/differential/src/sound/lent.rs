@@ -2,9 +2,23 @@
 
 use std::ops::Range;
 
+use library::sound;
+
 use super::file::File;
-use crate::ours::Lent;
 use crate::random::Random;
+
+/// What a read is lent, in memory of its own.
+pub struct Lent {
+    pub lengths: Vec<u32>,
+    pub frames: Vec<u8>,
+    pub contents: Vec<u8>,
+}
+
+impl Lent {
+    pub fn slices(&self) -> sound::Lent<'_> {
+        sound::Lent { lengths: &self.lengths, frames: &self.frames, contents: &self.contents }
+    }
+}
 
 /// What a read that needs these positions is lent.
 pub fn lent(file: &File, positions: &Range<usize>) -> Lent {

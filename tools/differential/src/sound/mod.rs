@@ -8,12 +8,14 @@ mod simplify;
 
 use std::ops::Range;
 
+use library::sound as ours;
+
 use self::counts::Counts;
 use self::file::{File, Index, Kind, Part, DST_HEAD};
+use self::lent::Lent;
 use crate::calls::{hold, hold_read, hold_refused};
 use crate::chunks;
 use crate::original::{self, Answer};
-use crate::ours::{self, Lent};
 use crate::random::Random;
 use crate::subject::{Disagreement, Fails, Halt, Subject};
 
@@ -267,6 +269,6 @@ impl Held<'_> {
 fn fill(file: &File, out: &mut [u8], place: u64, lent: &Lent) -> usize {
     match &file.kind {
         Kind::Dsd { positions } => ours::dsd_fill(out, place, file.channels, *positions, &lent.contents),
-        Kind::Dst { crc, lengths, .. } => ours::dst_fill(out, place, *crc, file.channels, lengths, lent),
+        Kind::Dst { crc, lengths, .. } => ours::dst_fill(out, place, *crc, file.channels, lengths, lent.slices()),
     }
 }

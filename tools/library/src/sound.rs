@@ -1,10 +1,10 @@
-//! This repository's functions, from the static library: the declarations, and a safe wrapper for each. A slice passes as
-//! a pointer and a length in elements.
+//! The sound of a file. `dst_head` and `dst_index` answer how many bytes the whole has; what does not fit in `out` is
+//! dropped, and bytes past the whole stay.
 
 use std::ops::Range;
 
-/// What a read is lent, for the positions that it needs: the lengths of their DST frames, their DST bytes joined, and
-/// their contents joined. DSD needs the contents alone, DST needs them with CRCs only.
+/// What a read of DST sound is lent, for the positions that it needs: their lengths, their DST bytes joined and, if there
+/// are CRCs, their contents joined.
 #[derive(Clone, Copy)]
 pub struct Lent<'a> {
     pub lengths: &'a [u32],
@@ -15,6 +15,24 @@ pub struct Lent<'a> {
 mod library {
     unsafe extern "C" {
         pub fn jangqeruz_crc(content: *const u8, content_len: usize) -> u32;
+
+        pub fn jangqeruz_dst_head(
+            out: *mut u8,
+            out_len: usize,
+            crc: bool,
+            lengths: *const u32,
+            lengths_len: usize,
+        ) -> usize;
+
+        pub fn jangqeruz_dst_index(
+            out: *mut u8,
+            out_len: usize,
+            crc: bool,
+            frame_data: bool,
+            base: u64,
+            lengths: *const u32,
+            lengths_len: usize,
+        ) -> usize;
 
         pub fn jangqeruz_dst_positions(
             range: *mut [usize; 2],
@@ -55,27 +73,57 @@ mod library {
     }
 }
 
+/// The CRC of a position's content.
 pub fn crc(content: &[u8]) -> u32 {
     // SAFETY: the pointer and length are of one live slice, and the library keeps neither.
     unsafe { library::jangqeruz_crc(content.as_ptr(), content.len()) }
 }
 
+/// The DST chunk's header and FRTE.
+pub fn dst_head(out: &mut [u8], crc: bool, lengths: &[u32]) -> usize {
+    // SAFETY: each pointer and length is of one live slice; the library writes to `out` only and keeps none of them.
+    unsafe { library::jangqeruz_dst_head(out.as_mut_ptr(), out.len(), crc, lengths.as_ptr(), lengths.len()) }
+}
+
+/// The data of DSTI, where the first unit starts at `base` of the file.
+pub fn dst_index(out: &mut [u8], crc: bool, frame_data: bool, base: u64, lengths: &[u32]) -> usize {
+    // SAFETY: as in `dst_head`.
+    unsafe {
+        library::jangqeruz_dst_index(
+            out.as_mut_ptr(),
+            out.len(),
+            crc,
+            frame_data,
+            base,
+            lengths.as_ptr(),
+            lengths.len(),
+        )
+    }
+}
+
+/// What `range` holds before a call.
+const NO_RANGE: [usize; 2] = [usize::MAX, 0];
+
+/// The positions that a read of `count` bytes of DST sound needs.
 pub fn dst_positions(crc: bool, lengths: &[u32], from: u64, count: u64) -> Range<usize> {
-    let mut range = [0; 2];
-    // SAFETY: as in `crc`; the library writes to `range` only.
+    let mut range = NO_RANGE;
+    // SAFETY: as in `dst_head`, but that the library writes to `range` only.
     unsafe { library::jangqeruz_dst_positions(&mut range, crc, lengths.as_ptr(), lengths.len(), from, count) };
     range[0]..range[1]
 }
 
+/// The positions that a read of `count` bytes of DSD sound needs, of `n` positions.
 pub fn dsd_positions(channels: u8, n: u32, from: u64, count: u64) -> Range<usize> {
-    let mut range = [0; 2];
+    let mut range = NO_RANGE;
     // SAFETY: as in `dst_positions`.
     unsafe { library::jangqeruz_dsd_positions(&mut range, channels, n, from, count) };
     range[0]..range[1]
 }
 
+/// Fills `out` with DST sound after its first `skip` bytes. Answers how many bytes it filled, or the largest `usize` if
+/// what is lent does not have the right lengths.
 pub fn dst_fill(out: &mut [u8], skip: u64, crc: bool, channels: u8, lengths: &[u32], lent: Lent<'_>) -> usize {
-    // SAFETY: each pointer and length is of one live slice; the library writes to `out` only and keeps none of them.
+    // SAFETY: as in `dst_head`.
     unsafe {
         library::jangqeruz_dst_fill(
             out.as_mut_ptr(),
@@ -95,8 +143,9 @@ pub fn dst_fill(out: &mut [u8], skip: u64, crc: bool, channels: u8, lengths: &[u
     }
 }
 
+/// The same with DSD sound of `n` positions, lent their contents joined.
 pub fn dsd_fill(out: &mut [u8], skip: u64, channels: u8, n: u32, contents: &[u8]) -> usize {
-    // SAFETY: as in `dst_fill`.
+    // SAFETY: as in `dst_head`.
     unsafe {
         library::jangqeruz_dsd_fill(out.as_mut_ptr(), out.len(), skip, channels, n, contents.as_ptr(), contents.len())
     }

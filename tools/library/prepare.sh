@@ -1,0 +1,27 @@
+# For the run.sh of the tools beside: `prepare` has the original built in target/oracle and the library in target/staticlib, and sets
+# JANGQERUZ_LIBRARY for cargo. Wants `root`, `request` and `library` (empty: build it).
+
+failed() {
+    echo "run.sh: $1" >&2
+    exit 2
+}
+
+prepare() {
+    if [ ! -x "$root/target/oracle/target/release/scarletbook" ]; then
+        env -u CARGO_TARGET_DIR "$request/oracle/build.sh" "$request/docs/src" "$root/target/oracle" >&2 ||
+            failed "the original could not be built"
+    fi
+    if [ -z "$library" ]; then
+        (cd "$root" && rt staticlib abi) >&2 || failed "the library could not be built"
+        library=$root/target/staticlib/libabi.a
+    fi
+    [ -f "$library" ] || failed "no such file: $library"
+    JANGQERUZ_LIBRARY=$(cd "$(dirname "$library")" && pwd)/$(basename "$library")
+    export JANGQERUZ_LIBRARY
+}
+
+# build NAME: the program of the folder `here`, in target/NAME
+build() {
+    CARGO_TARGET_DIR=$root/target/$1 cargo build --quiet --release --offline --locked --manifest-path "$here/Cargo.toml" >&2 ||
+        failed "the program could not be built"
+}

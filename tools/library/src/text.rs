@@ -1,0 +1,139 @@
+//! Texts, and the chunks that are made of them. A function answers how many bytes the whole has. What does not fit in `out`
+//! is dropped; bytes past the whole stay.
+
+/// A stretch of a pool of text.
+#[derive(Clone, Copy, Debug, Default, PartialEq)]
+pub struct Extent {
+    pub start: u32,
+    pub length: u32,
+}
+
+/// What becomes of a value that does not pass.
+#[derive(Clone, Copy, Debug, PartialEq)]
+pub struct Conversion {
+    pub rule: u8,
+    pub replacement: u8,
+}
+
+pub const REPLACE: u8 = 0;
+pub const REMOVE: u8 = 1;
+/// Departure D2: ISO 8859-1, anything else removed.
+pub const D2: u8 = 2;
+
+#[derive(Clone, Copy, Debug, PartialEq)]
+pub struct Switches {
+    pub empty_text: bool,
+    pub text_pad_counted: bool,
+}
+
+/// A comment: year, month, day, hour, minutes, kind, reference, start and length of its text.
+pub type Row = [u32; 9];
+
+mod library {
+    unsafe extern "C" {
+        pub fn jangqeruz_text_bytes(
+            out: *mut u8,
+            out_len: usize,
+            pool: *const u32,
+            pool_len: usize,
+            start: u32,
+            length: u32,
+            rule: u8,
+            replacement: u8,
+        ) -> usize;
+
+        pub fn jangqeruz_diin_text(
+            out: *mut u8,
+            out_len: usize,
+            id: *const [u8; 4],
+            pool: *const u32,
+            pool_len: usize,
+            given: bool,
+            start: u32,
+            length: u32,
+            rule: u8,
+            replacement: u8,
+            empty_text: bool,
+            text_pad_counted: bool,
+        ) -> usize;
+
+        pub fn jangqeruz_comt(
+            out: *mut u8,
+            out_len: usize,
+            pool: *const u32,
+            pool_len: usize,
+            rows: *const u32,
+            rows_len: usize,
+            rule: u8,
+            replacement: u8,
+            empty_text: bool,
+            text_pad_counted: bool,
+        ) -> usize;
+    }
+}
+
+/// The text bytes of a text of the pool.
+pub fn text_bytes(out: &mut [u8], pool: &[u32], text: Extent, conversion: Conversion) -> usize {
+    // SAFETY: each pointer and length is of one live slice; the library writes to `out` only and keeps none of them.
+    unsafe {
+        library::jangqeruz_text_bytes(
+            out.as_mut_ptr(),
+            out.len(),
+            pool.as_ptr(),
+            pool.len(),
+            text.start,
+            text.length,
+            conversion.rule,
+            conversion.replacement,
+        )
+    }
+}
+
+/// The chunk `id` (DIAR or DITI) of a text of the pool; nothing if it is not given.
+pub fn diin_text(
+    out: &mut [u8],
+    id: &[u8; 4],
+    pool: &[u32],
+    given: bool,
+    text: Extent,
+    conversion: Conversion,
+    switches: Switches,
+) -> usize {
+    // SAFETY: as in `text_bytes`.
+    unsafe {
+        library::jangqeruz_diin_text(
+            out.as_mut_ptr(),
+            out.len(),
+            id,
+            pool.as_ptr(),
+            pool.len(),
+            given,
+            text.start,
+            text.length,
+            conversion.rule,
+            conversion.replacement,
+            switches.empty_text,
+            switches.text_pad_counted,
+        )
+    }
+}
+
+/// The chunk COMT of the comments; nothing if none is written.
+pub fn comt(out: &mut [u8], pool: &[u32], rows: &[Row], conversion: Conversion, switches: Switches) -> usize {
+    let rows = rows.as_flattened();
+    // SAFETY: as in `text_bytes`.
+    unsafe {
+        library::jangqeruz_comt(
+            out.as_mut_ptr(),
+            out.len(),
+            pool.as_ptr(),
+            pool.len(),
+            rows.as_ptr(),
+            rows.len(),
+            conversion.rule,
+            conversion.replacement,
+            switches.empty_text,
+            switches.text_pad_counted,
+        )
+    }
+}
