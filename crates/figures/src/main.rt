@@ -2,6 +2,7 @@
 mod chunks; // chunks.rt: numbers, chunks, frame times, names
 mod text; // text.rt: converted texts, DIAR and DITI, COMT
 mod text_cases; // text_cases.rt: their pools and comments
+mod sound; // sound.rt: CRC, units, head, index and reads of DST sound; positions
 mod print; // print.rt: lines of text, numbers and bytes
 
 fn main() {
@@ -11,4 +12,5 @@ fn main() {
     chunks::short_buffers();
     chunks::names();
     text::cases();
+    sound::cases();
 }
