@@ -19,7 +19,7 @@ use Rattle.dst.specs.declared.window.Window.{Window}
 use Rattle.dst.specs.declared.lent.Fill.the-variants.{Filled}
 use Rattle.dst.specs.Positions.{positions, number, between}
 use Rattle.dst.specs.Window.{Wrote, Filling}
-use Rattle.dst.specs.Lent.{contentsWith}
+use Rattle.dst.specs.Lent.{neededAt, contentsWith}
 use Rattle.dst.proofs.PlaceLaws.{lt-or-le, place-is, place-end}
 use Rattle.dst.proofs.PositionsLaws.{Nothing, Some, positions-are, positions-known, touching}
 use Rattle.dst.proofs.PartLaws.{part-filled}
@@ -208,7 +208,7 @@ module _ (f : ℕ) (p : Positions) (n : ℕ) (contents : List ℕ) (ordered : p 
 -- the sound of the file with zeros for what is not lent
 module _ (f n : ℕ) (contents : List ℕ) (w : Window) (out : List ℕ) where
   abbrev pub wanted : Positions
-  wanted = positions (replicate n f) (w .skip) (length out - w .at)
+  wanted = neededAt (replicate n f) w out
 
   pub wanted-known : (wanted .first ≤ wanted .end) × (wanted .end ≤ n)
   wanted-known =

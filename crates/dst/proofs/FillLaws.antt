@@ -24,7 +24,7 @@ use Rattle.dst.specs.Unit.{unitBytes, sound, unitSize, sizes}
 use Rattle.dst.specs.Place.{sum, placeOf}
 use Rattle.dst.specs.Positions.{positions, between}
 use Rattle.dst.specs.Window.{Wrote, Filling}
-use Rattle.dst.specs.Lent.{isLent, lentFrames, framesWith}
+use Rattle.dst.specs.Lent.{neededAt, isLent, lentFrames, framesWith}
 use Rattle.dst.proofs.StartLaws.{sum-append, sum-suc, size-at}
 use Rattle.dst.proofs.LentLaws.{lent-lengths, lent-suc, with-codes, with-between}
 use Rattle.dst.proofs.UnitLaws.{sizes-of}
@@ -88,7 +88,7 @@ module _ (crc : Bool) (ls : List ℕ) where
   -- the sound of the file with zeros for what is not lent
   module _ (n : ℕ) (lent frames contents : List ℕ) (w : Window) (out : List ℕ) where
     abbrev pub wanted : Positions
-    wanted = positions (sizes crc ls) (w .skip) (length out - w .at)
+    wanted = neededAt (sizes crc ls) w out
 
     module _ (given : isLent n (between wanted ls) lent frames contents ≡ true) where
       pub sizes-with : map (λ (f : Frame). length (unitBytes crc f)) (framesWith n wanted ls frames contents) ≡ sizes crc ls

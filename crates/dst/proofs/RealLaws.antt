@@ -18,7 +18,7 @@ use Rattle.dst.specs.Unit.{unitBytes, sound, lengths, sizes}
 use Rattle.dst.specs.Place.{sum}
 use Rattle.dst.specs.Positions.{positions, between, number}
 use Rattle.dst.specs.Window.{Filling}
-use Rattle.dst.specs.Lent.{isLent, lentFrames, framesWith, contentsWith, codes, contents, Even, Plain}
+use Rattle.dst.specs.Lent.{neededAt, isLent, lentFrames, framesWith, contentsWith, codes, contents, Even, Plain}
 use Rattle.dst.proofs.SameLaws.{same-refl}
 use Rattle.dst.proofs.UnitLaws.{unit-plain, sizes-of}
 use Rattle.dst.proofs.LentLaws.{lent-real}
@@ -94,7 +94,7 @@ plain-between false channels fs p e = tt
 -- DST: the needed frames of the file are lent
 module _ (crc : Bool) (channels : ℕ) (fs : List Frame) (plain : Plain crc channels fs) (w : Window) (out : List ℕ) where
   abbrev needs : Positions
-  needs = positions (sizes crc (lengths fs)) (w .skip) (length out - w .at)
+  needs = neededAt (sizes crc (lengths fs)) w out
 
   abbrev some : List Frame
   some = between needs fs
@@ -132,7 +132,7 @@ drop-replicate f (suc n) (suc a) = let e : suc n - suc a ≡ n - a = omega arith
 module _ (channels : ℕ) (xs : List (List ℕ)) (even : map (λ (c : List ℕ). length c) xs ≡ replicate (length xs) (frameBytes channels)) (w : Window)
     (out : List ℕ) where
   abbrev wants : Positions
-  wants = positions (replicate (length xs) (frameBytes channels)) (w .skip) (length out - w .at)
+  wants = neededAt (replicate (length xs) (frameBytes channels)) w out
 
   wants-known : (wants .first ≤ wants .end) × (wants .end ≤ length xs)
   wants-known = wanted-known (frameBytes channels) (length xs) [] w out

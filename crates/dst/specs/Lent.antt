@@ -8,9 +8,14 @@ use lib.ListN.{length, take, drop, replicate}
 use Rattle.chunk.specs.Name.{same}
 use Rattle.chunk.specs.Extent.{firstRows}
 use Rattle.dst.specs.declared.place.Positions.{Positions}
+use Rattle.dst.specs.declared.window.Window.{Window}
 use Rattle.dst.specs.Frame.{Frame, frameBytes}
 use Rattle.dst.specs.Place.{sum}
-use Rattle.dst.specs.Positions.{number, between}
+use Rattle.dst.specs.Positions.{positions, number, between}
+
+-- the positions that a read at the place w needs to fill the rest of its buffer, by the units' sizes
+abbrev pub neededAt : List ℕ → Window → List ℕ → Positions
+neededAt ss w out = positions ss (w .skip) (length out - w .at)
 
 -- whether what is lent for positions of these lengths is theirs: the same lengths, as many DST bytes, and n bytes of content for each
 unfoldable pub isLent : ℕ → List ℕ → List ℕ → List ℕ → List ℕ → Bool

@@ -1,13 +1,13 @@
 // DSD sound: the plain contents of its positions.
 ghost use mathlib.Core.Path.{_≡_};
-ghost use Prim.Native.Nat.{_*_, _-_, _^_, _<_};
+ghost use Prim.Native.Nat.{_*_, _^_, _<_};
 ghost use lib.Dec.{eqb};
 ghost use lib.ListN.{length, replicate};
 ghost use Rattle.dst.specs.Frame.{frameBytes, dsdSound};
 ghost use Rattle.dst.specs.Place.{placeOf, byteAt, Inside};
 ghost use Rattle.dst.specs.Positions.{positions, number};
 ghost use Rattle.dst.specs.Window.{Filling};
-ghost use Rattle.dst.specs.Lent.{contentsWith};
+ghost use Rattle.dst.specs.Lent.{neededAt, contentsWith};
 use crate::frame::frame_bytes;
 use crate::lent::Fill;
 use crate::lent::filled;
@@ -78,8 +78,8 @@ pub fn positions(channels: u8, n: u32, from: u64, count: u64) -> Positions
 // positions, joined.
 pub fn fill(out: &mut [u8], w: Window, channels: u8, n: u32, contents: &[u8]) -> Fill
     ensures { λ r. ⌜ Filling
-        (eqb (frameBytes channels * number (positions (replicate n (frameBytes channels)) (w .skip) (length (now (out .entry)) - w .at))) (length (now (contents .entry))))
-        (dsdSound (contentsWith (frameBytes channels) (positions (replicate n (frameBytes channels)) (w .skip) (length (now (out .entry)) - w .at)) n (now (contents .entry))))
+        (eqb (frameBytes channels * number (neededAt (replicate n (frameBytes channels)) w (now (out .entry)))) (length (now (contents .entry))))
+        (dsdSound (contentsWith (frameBytes channels) (neededAt (replicate n (frameBytes channels)) w (now (out .entry))) n (now (contents .entry))))
         w (now (out .entry)) (now (out .exit)) r ⌝ }
 {
     let at = w.at;

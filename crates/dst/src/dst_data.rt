@@ -1,6 +1,6 @@
 // DST sound: the units of its frames.
 ghost use mathlib.Core.Path.{_≡_};
-ghost use Prim.Native.Nat.{_*_, _-_};
+ghost use Prim.Native.Nat.{_*_};
 ghost use lib.ListN.{length};
 ghost use Rattle.chunk.specs.Name.{ascii};
 ghost use Rattle.chunk.specs.Number.{be};
@@ -11,7 +11,7 @@ ghost use Rattle.dst.specs.Unit.{unitBytes, sound, sizes};
 ghost use Rattle.dst.specs.Place.{sum};
 ghost use Rattle.dst.specs.Positions.{positions, between};
 ghost use Rattle.dst.specs.Window.{Wrote, Filling};
-ghost use Rattle.dst.specs.Lent.{isLent, lentFrames, framesWith};
+ghost use Rattle.dst.specs.Lent.{neededAt, isLent, lentFrames, framesWith};
 use crate::crc::crc;
 use crate::frame::plain_bytes;
 use crate::lent::Fill;
@@ -123,9 +123,9 @@ pub fn fill(
     contents: &[u8],
 ) -> Fill
     ensures { λ r. ⌜ Filling
-        (isLent (plainBytes crc channels) (between (positions (sizes crc (now (lengths .entry))) (w .skip) (length (now (out .entry)) - w .at)) (now (lengths .entry)))
+        (isLent (plainBytes crc channels) (between (neededAt (sizes crc (now (lengths .entry))) w (now (out .entry))) (now (lengths .entry)))
         (now (lent .entry)) (now (frames .entry)) (now (contents .entry)))
-        (sound crc (framesWith (plainBytes crc channels) (positions (sizes crc (now (lengths .entry))) (w .skip) (length (now (out .entry)) - w .at)) (now (lengths .entry))
+        (sound crc (framesWith (plainBytes crc channels) (neededAt (sizes crc (now (lengths .entry))) w (now (out .entry))) (now (lengths .entry))
         (now (frames .entry)) (now (contents .entry))))
         w (now (out .entry)) (now (out .exit)) r ⌝ }
 {
