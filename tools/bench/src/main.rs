@@ -68,31 +68,45 @@ fn print_row(sound: &Sound<'_>, bytes: usize, place: &str, times: Times) {
     println!("{positions:>11.0}{share:>7.0}%{joining:>11.0}{with_joining:>9.2}");
 }
 
-/// Our fill of DSD, which is one copy, against a copy of as many bytes from the same place.
+/// Our fill of DSD, which is one copy, against a copy of as many bytes from the same place. What a fill of 1 byte takes is the
+/// call and its checks; the rest of a fill is the copying.
 fn copies(pool: &Pool) {
-    println!("{:>23}{:>11}{:>11}{:>8}", "bytes", "copy", "our fill", "ratio");
+    println!(
+        "{:>23}{:>11}{:>11}{:>8}{:>11}{:>11}{:>8}",
+        "bytes", "copy", "our fill", "ratio", "of 1 byte", "copying", "ratio"
+    );
     let sound = Sound::new(Kind::Dsd, pool);
-    for bytes in SIZES {
-        let read = Read { place: COPIED_FROM as u64, bytes };
+    let lent = |read: Read| {
         let mut joined = Joined::default();
         sound.join(sound.positions(read), &mut joined);
+        joined
+    };
+    let fills = |read: Read, joined: &Joined, out: &mut [u8]| {
+        timed(|| {
+            for _ in 0..CALLS {
+                black_box(sound.fill(black_box(read), joined, out));
+            }
+        })
+    };
+    let small = Read { place: COPIED_FROM as u64, bytes: 1 };
+    let small_lent = lent(small);
+    for bytes in SIZES {
+        let read = Read { bytes, ..small };
+        let joined = lent(read);
         let mut out = vec![0; bytes];
-        let [copy, fill] = best(|| {
+        let [copy, fill, one] = best(|| {
             let copy = timed(|| {
                 for _ in 0..CALLS {
                     let from = black_box(&joined).contents[COPIED_FROM..].split_at(bytes).0;
                     black_box(&mut out).copy_from_slice(from);
                 }
             });
-            let fill = timed(|| {
-                for _ in 0..CALLS {
-                    black_box(sound.fill(black_box(read), &joined, &mut out));
-                }
-            });
-            [copy, fill]
+            [copy, fills(read, &joined, &mut out), fills(small, &small_lent, &mut out[..1])]
         });
-        let [copy, fill] = [each(copy, CALLS), each(fill, CALLS)];
-        println!("DSD {bytes:>19}{copy:>11.0}{fill:>11.0}{:>8.2}", fill / copy);
+        let [copy, fill, one] = [copy, fill, one].map(|time| each(time, CALLS));
+        let (ratio, copying) = (fill / copy, fill - one);
+        print!("DSD {bytes:>19}{copy:>11.0}{fill:>11.0}{ratio:>8.2}");
+        println!("{one:>11.0}{copying:>11.0}{:>8.2}", copying / copy);
     }
 }
 
