@@ -8,10 +8,15 @@ use lib.ListN.{length, length-append}
 use Rattle.chunk.specs.Number.{be}
 use Rattle.chunk.specs.Name.{Name}
 use Rattle.chunk.specs.Chunk.{pad, chunk}
-use Rattle.chunk.specs.Text.{textPad, counts}
-use Rattle.chunk.specs.DiinText.{diinTextData}
+use Rattle.chunk.specs.Extent.{part}
+use Rattle.chunk.specs.Text.{textBytes, textPad, isWritten, counts}
+use Rattle.chunk.specs.Tree.{stop, leaf, bytes}
+use Rattle.chunk.specs.DiinText.{diinTextData, givenText, diinText, givenTextChunk, diinTextChunk}
+use Rattle.chunk.specs.declared.diin_text.Text.{Text}
+use Rattle.chunk.specs.declared.diin_text.Text.the-variants.{Absent, Given}
 use Rattle.chunk.specs.declared.text.TextOptions.{TextOptions}
 use Rattle.chunk.proofs.ChunkLaws.{length-pad, pad-even, pad-parity}
+use Rattle.chunk.proofs.TreeLaws.{bytes-stop, bytes-leaf}
 use Rattle.chunk.proofs.TextLaws.{length-counts}
 
 -- the data of a text, with the pad in it or without it
@@ -41,3 +46,17 @@ diin-text-bytes name text o = go (o .«text_pad_counted»)
     go : (b : Bool) → chunk name (content text b) ≡ name ++ be 8 (4 + length text + cond b (length text % 2) 0) ++ be 4 (length text) ++ text ++ pad (length text)
     go true = rw (length-content text true, pad-even (4 + length text + length text % 2) (omega arith)) (simp (append-assoc, append-nil))
     go false = rw (length-content text false, pad-parity (4 + length text + 0) (length text) (omega arith)) (simp (append-assoc, append-nil))
+
+-- DIAR and DITI as chunks of a tree have the same bytes
+given-text-tree : (name : Name) (text : List ℕ) (o : TextOptions) → bytes (givenTextChunk name text o) ≡ givenText name text o
+unfolding givenTextChunk givenText
+given-text-tree name text o = go (isWritten o (length text))
+  where
+    go : (b : Bool) → bytes (cond b (leaf name (diinTextData text o) stop) stop) ≡ cond b (chunk name (diinTextData text o)) []
+    go true = bytes-leaf name (diinTextData text o)
+    go false = bytes-stop
+
+pub diin-text-tree : (name : Name) (pool : List ℕ) (text : Text) (o : TextOptions) → bytes (diinTextChunk name pool text o) ≡ diinText name pool text o
+unfolding diinTextChunk diinText
+diin-text-tree name pool Absent o = bytes-stop
+diin-text-tree name pool (Given text) o = given-text-tree name (textBytes (o .rule) (part pool text)) o

@@ -1,21 +1,58 @@
 -- The laws of a tree's bytes. Assumes nothing.
 use mathlib.Core.Path.{_≡_, refl}
-use Prim.Native.Nat.{ℕ, _+_, _%_}
+use Prim.Native.Nat.{ℕ, _+_, _%_, _<_}
+use native.Mathlib.Numerals.{add-one}
 use native.Mathlib.Omega.{arith}
-use mathlib.Core.List.{List, _++_, append-assoc, append-nil}
-use lib.ListN.{length, length-append}
+use mathlib.Core.List.{List, [], _∷_, _++_, flatMap, append-assoc, append-nil}
+use lib.ListN.{length, take, getD, length-append}
+use lib.Seq.{take-suc}
 use Rattle.chunk.specs.Number.{be}
 use Rattle.chunk.specs.Name.{Name}
 use Rattle.chunk.specs.Chunk.{pad, chunk, occupied}
-use Rattle.chunk.specs.Tree.{Chunks, stop, leaf, node, bytes, join}
+use Rattle.chunk.specs.Tree.{Chunks, stop, leaf, node, bytes, join, each}
 use Rattle.chunk.specs.Reader.{Reader, Shaped}
 use Rattle.chunk.proofs.ChunkLaws.{length-chunk}
+use Rattle.chunk.proofs.ListLaws.{flatMap-append, flatMap-one}
 
 pub bytes-join : (a b : Chunks) → bytes (join a b) ≡ bytes a ++ bytes b
 unfolding bytes join
 bytes-join stop b = refl
 bytes-join (leaf name content rest) b = rw (append-assoc, bytes-join rest b)
 bytes-join (node name form inside rest) b = rw (append-assoc, bytes-join rest b)
+
+-- nothing, one chunk, one container
+pub bytes-stop : bytes stop ≡ []
+unfolding bytes
+bytes-stop = refl
+
+pub bytes-leaf : (name : Name) (content : List ℕ) → bytes (leaf name content stop) ≡ chunk name content
+unfolding bytes
+bytes-leaf name content = append-nil (chunk name content)
+
+pub bytes-node : (name : Name) (form : List ℕ) (inside : Chunks) → bytes (node name form inside stop) ≡ chunk name (form ++ bytes inside)
+unfolding bytes
+bytes-node name form inside = append-nil (chunk name (form ++ bytes inside))
+
+-- the chunks that each element makes
+module _ {A : Type 0} (f : A → Chunks) where
+  pub bytes-each : (xs : List A) → bytes (each f xs) ≡ flatMap (λ x. bytes (f x)) xs
+  unfolding bytes each flatMap
+  bytes-each [] = refl
+  bytes-each (x ∷ xs) = rw (bytes-join, bytes-each xs)
+
+  pub bytes-each-append : (xs ys : List A) → bytes (each f (xs ++ ys)) ≡ bytes (each f xs) ++ bytes (each f ys)
+  bytes-each-append xs ys = simp (bytes-each, flatMap-append)
+
+  pub bytes-each-cons : (x : A) (xs : List A) → bytes (each f (x ∷ xs)) ≡ bytes (f x) ++ bytes (each f xs)
+  unfolding each
+  bytes-each-cons x xs = bytes-join (f x) (each f xs)
+
+  pub bytes-each-one : (x : A) → bytes (each f (x ∷ [])) ≡ bytes (f x)
+  bytes-each-one x = rw (bytes-each) (flatMap-one (λ x. bytes (f x)) x)
+
+  -- one element more
+  pub bytes-each-next : (xs : List A) (i : ℕ) (d : A) → i < length xs → bytes (each f (take (i + 1) xs)) ≡ bytes (each f (take i xs)) ++ bytes (f (getD xs i d))
+  bytes-each-next xs i d more = rw (add-one, take-suc xs i d more, bytes-each-append, bytes-each-one)
 
 -- Whole chunks have an even length, so a container with an even form has no pad.
 pub even-bytes : (r : Reader) (parent : Name) (t : Chunks) → Shaped r parent t → length (bytes t) % 2 ≡ 0

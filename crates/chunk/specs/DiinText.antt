@@ -5,6 +5,7 @@ use mathlib.Core.List.{List, [], _++_}
 use lib.ListN.{length}
 use Rattle.chunk.specs.Name.{Name}
 use Rattle.chunk.specs.Chunk.{chunk}
+use Rattle.chunk.specs.Tree.{Chunks, stop, leaf}
 use Rattle.chunk.specs.Extent.{part}
 use Rattle.chunk.specs.Text.{textBytes, textPad, isWritten, counts}
 use Rattle.chunk.specs.declared.text.TextOptions.{TextOptions}
@@ -23,3 +24,11 @@ givenText name text o = cond (isWritten o (length text)) (chunk name (diinTextDa
 unfoldable pub diinText : Name → List ℕ → Text → TextOptions → List ℕ
 diinText name pool Absent o = []
 diinText name pool (Given text) o = givenText name (textBytes (o .rule) (part pool text)) o
+
+-- the same as chunks of a tree
+unfoldable pub givenTextChunk : Name → List ℕ → TextOptions → Chunks
+givenTextChunk name text o = cond (isWritten o (length text)) (leaf name (diinTextData text o) stop) stop
+
+unfoldable pub diinTextChunk : Name → List ℕ → Text → TextOptions → Chunks
+diinTextChunk name pool Absent o = stop
+diinTextChunk name pool (Given text) o = givenTextChunk name (textBytes (o .rule) (part pool text)) o

@@ -1,6 +1,6 @@
 -- A file as a tree of chunks, and the bytes of the tree. Assumes nothing.
 use Prim.Native.Nat.{ℕ}
-use mathlib.Core.List.{List, [], _++_}
+use mathlib.Core.List.{List, [], _∷_, _++_}
 use Rattle.chunk.specs.Name.{Name}
 use Rattle.chunk.specs.Chunk.{chunk}
 
@@ -22,3 +22,8 @@ unfoldable pub join : Chunks → Chunks → Chunks
 join stop b = b
 join (leaf name content rest) b = leaf name content (join rest b)
 join (node name form within rest) b = node name form within (join rest b)
+
+-- the chunks that each element of a list makes, one after the other
+unfoldable pub each : {A : Type 0} → (A → Chunks) → List A → Chunks
+each f [] = stop
+each f (x ∷ xs) = join (f x) (each f xs)

@@ -1,0 +1,11 @@
+pub mod RowLaws
+pub mod LayoutLaws
+pub mod PropertyLaws
+pub mod PropertyExamples
+pub mod TrackLaws
+pub mod OrderLaws
+pub mod ProgramLaws
+pub mod SourceLaws
+pub mod MarkerLaws
+pub mod DiinLaws
+pub mod ProgramExamples

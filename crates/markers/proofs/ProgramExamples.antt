@@ -1,0 +1,33 @@
+-- The figures of a program, worked out by the definitions. Assumes nothing.
+use mathlib.Core.Path.{_≡_, refl}
+use mathlib.Core.Bool.{false}
+use mathlib.Core.List.{List, [], _∷_, flatMap}
+use Prim.Native.Nat.{ℕ}
+use Rattle.chunk.specs.Extent.{firstRows, rows}
+use Rattle.markers.specs.Track.{spanOf, spans, clip, hasFrames, kept, clipped, inOrder, allHaveFrames, exact, some}
+use Rattle.markers.specs.Program.{marker, trackStart, trackStop, stopUnless, trackMarkers, program, isPlayRange, hasProgram, fromToc}
+use Rattle.markers.specs.declared.marker.MarkerKind.the-variants.{TrackStart, TrackStop, ProgramStart}
+use Rattle.markers.specs.declared.marker.MarkerText.the-variants.{Empty}
+use Rattle.markers.specs.declared.program.ProgramOptions.{ProgramOptions}
+
+-- tracks of one second each, one after the other
+words : List ℕ
+words = 0 ∷ 75 ∷ 0 ∷ 0 ∷ 75 ∷ 75 ∷ 0 ∷ 0 ∷ []
+
+-- both of them, without titles
+both : ProgramOptions
+both = record {
+  first = 0;
+  end = 150;
+  playtime = 150;
+  «source_track» = 0;
+  «source_track_markers» = false;
+  «clipped_program» = false;
+  titles = false;
+}
+
+-- the first track has no stop, as the second starts there
+both-markers : fromToc both (spans words)
+    ≡ marker 0 ProgramStart Empty ∷ marker 0 TrackStart Empty ∷ marker 75 TrackStart Empty ∷ marker 150 TrackStop Empty ∷ []
+unfolding words both rows firstRows flatMap spanOf spans clip hasFrames kept clipped inOrder allHaveFrames exact some trackStart trackStop stopUnless trackMarkers program isPlayRange hasProgram fromToc
+both-markers = refl

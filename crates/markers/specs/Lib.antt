@@ -1,0 +1,11 @@
+pub mod Layout
+pub mod Start
+pub mod Compression
+pub mod Property
+pub mod Marker
+pub mod Track
+pub mod Program
+pub mod Pass
+pub mod Custom
+pub mod Pick
+pub mod Diin

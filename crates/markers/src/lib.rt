@@ -1,0 +1,12 @@
+// What DSDIFF says of the sound: PROP, and DIIN with its markers.
+pub mod layout; // layout.rt: speaker layouts, the channels' names, the speaker code
+pub mod start; // start.rt: the absolute start
+pub mod compression; // compression.rt: CMPR, DSD or DST
+pub mod property; // property.rt: PROP
+pub mod marker; // marker.rt: markers and MARK
+pub mod track; // track.rt: tracks, and their spans clipped to the range
+pub mod program; // program.rt: the markers of a row of spans
+pub mod from_toc; // from_toc.rt: whether and which markers are made from tracks
+pub mod custom; // custom.rt: markers that are given
+pub mod pick; // pick.rt: whose artist and title are taken
+pub mod diin; // diin.rt: DIIN
