@@ -2,6 +2,7 @@
 use mathlib.Core.Path.{_≡_}
 use mathlib.Core.Bool.{Bool, true, false, cond}
 use mathlib.Core.List.{List, [], _++_, append-assoc, append-nil}
+use mathlib.Core.Option.{none}
 use Prim.Native.Nat.{ℕ, _+_, _%_, _≤_}
 use native.Mathlib.Omega.{arith}
 use lib.ListN.{length, length-append}
@@ -12,11 +13,12 @@ use Rattle.chunk.specs.Extent.{part}
 use Rattle.chunk.specs.Text.{textBytes, textPad, isWritten, counts}
 use Rattle.chunk.specs.Tree.{stop, leaf, bytes}
 use Rattle.chunk.specs.DiinText.{diinTextData, givenText, diinText, givenTextChunk, diinTextChunk}
+use Rattle.chunk.specs.Reader.{Reader, Shaped}
 use Rattle.chunk.specs.declared.diin_text.Text.{Text}
 use Rattle.chunk.specs.declared.diin_text.Text.the-variants.{Absent, Given}
 use Rattle.chunk.specs.declared.text.TextOptions.{TextOptions}
 use Rattle.chunk.proofs.ChunkLaws.{length-pad, pad-even, pad-parity}
-use Rattle.chunk.proofs.TreeLaws.{bytes-stop, bytes-leaf}
+use Rattle.chunk.proofs.TreeLaws.{bytes-stop, bytes-leaf, shaped-if}
 use Rattle.chunk.proofs.TextLaws.{length-counts}
 
 -- the data of a text, with the pad in it or without it
@@ -60,3 +62,12 @@ pub diin-text-tree : (name : Name) (pool : List ℕ) (text : Text) (o : TextOpti
 unfolding diinTextChunk diinText
 diin-text-tree name pool Absent o = bytes-stop
 diin-text-tree name pool (Given text) o = given-text-tree name (textBytes (o .rule) (part pool text)) o
+
+-- and have the shape of a reader for whom the name is no container
+pub diin-text-shaped : (r : Reader) (parent name : Name) → length name ≡ 4 → r .inner parent name ≡ none
+    → (pool : List ℕ) (text : Text) (o : TextOptions) → Shaped r parent (diinTextChunk name pool text o)
+unfolding diinTextChunk givenTextChunk
+diin-text-shaped r parent name four plain pool Absent o = tt
+diin-text-shaped r parent name four plain pool (Given e) o =
+    let text = textBytes (o .rule) (part pool e) in
+    shaped-if r parent (isWritten o (length text)) (leaf name (diinTextData text o) stop) (four, plain, tt)

@@ -1,5 +1,6 @@
 -- The laws of a tree's bytes. Assumes nothing.
 use mathlib.Core.Path.{_≡_, refl}
+use mathlib.Core.Bool.{Bool, true, false, cond}
 use Prim.Native.Nat.{ℕ, _+_, _%_, _<_}
 use native.Mathlib.Numerals.{add-one}
 use native.Mathlib.Omega.{arith}
@@ -53,6 +54,24 @@ module _ {A : Type 0} (f : A → Chunks) where
   -- one element more
   pub bytes-each-next : (xs : List A) (i : ℕ) (d : A) → i < length xs → bytes (each f (take (i + 1) xs)) ≡ bytes (each f (take i xs)) ++ bytes (f (getD xs i d))
   bytes-each-next xs i d more = rw (add-one, take-suc xs i d more, bytes-each-append, bytes-each-one)
+
+-- Chunks one after the other have the reader's shape if each has it.
+module _ (r : Reader) (parent : Name) where
+  pub shaped-join : (a b : Chunks) → Shaped r parent a → Shaped r parent b → Shaped r parent (join a b)
+  unfolding join
+  shaped-join stop b v w = w
+  shaped-join (leaf name content rest) b v w = (v .0, v .1, shaped-join rest b (v .2) w)
+  shaped-join (node name form inside rest) b v w = (v .0, v .1, v .2, shaped-join rest b (v .3) w)
+
+  pub shaped-each : {A : Type 0} (f : A → Chunks) → ((x : A) → Shaped r parent (f x)) → (xs : List A) → Shaped r parent (each f xs)
+  unfolding each
+  shaped-each f w [] = tt
+  shaped-each f w (x ∷ xs) = shaped-join (f x) (each f xs) (w x) (shaped-each f w xs)
+
+  -- chunks that may be left out
+  pub shaped-if : (b : Bool) (t : Chunks) → Shaped r parent t → Shaped r parent (cond b t stop)
+  shaped-if true t w = w
+  shaped-if false t w = tt
 
 -- Whole chunks have an even length, so a container with an even form has no pad.
 pub even-bytes : (r : Reader) (parent : Name) (t : Chunks) → Shaped r parent t → length (bytes t) % 2 ≡ 0

@@ -3,6 +3,8 @@ mod chunks; // chunks.rt: numbers, chunks, frame times, names
 mod text; // text.rt: converted texts, DIAR and DITI, COMT
 mod text_cases; // text_cases.rt: their pools and comments
 mod sound; // sound.rt: CRC, units, head, index and reads of DST sound; positions
+mod property; // property.rt: PROP
+mod diin; // diin.rt: DIIN and its markers
 mod print; // print.rt: lines of text, numbers and bytes
 
 fn main() {
@@ -13,4 +15,6 @@ fn main() {
     chunks::names();
     text::cases();
     sound::cases();
+    property::cases();
+    diin::cases();
 }

@@ -8,6 +8,13 @@ pub fn number(n: u64) {
     io::print_decimal(STDOUT_FILENO, n);
 }
 
+// The length of a line of bytes, which follows.
+pub fn length(n: usize) {
+    text(b", ");
+    number(n as u64);
+    text(b" bytes:");
+}
+
 fn wide(b: u8) -> u64 {
     b as u64
 }

@@ -7,19 +7,13 @@ use chunk::extent::Extent;
 use chunk::text::TextOptions;
 use chunk::text::TextRule;
 
-fn length(n: usize) {
-    print::text(b", ");
-    print::number(n as u64);
-    print::text(b" bytes:");
-}
-
 fn converted(pool: &[u32], text: Extent, options: TextOptions) {
     let mut out = [0xEEu8; 16];
     let c = Cursor::new();
     let rule = options.rule;
     let end = c.text_bytes(&mut out, rule, pool, text);
     print::text(b"text");
-    length(end.at);
+    print::length(end.at);
     print::front(&out, end.at);
 }
 
@@ -31,7 +25,7 @@ fn diin(id: [u8; 4], pool: &[u32], text: Text, options: TextOptions) {
     let c = Cursor::new();
     let end = c.diin_text(&mut out, id, pool, text, options);
     print::text(&id);
-    length(end.at);
+    print::length(end.at);
     print::front(&out, end.at);
 }
 
@@ -40,7 +34,7 @@ fn comments(pool: &[u32], rows: &[u32], options: TextOptions) {
     let c = Cursor::new();
     let end = c.comt(&mut out, pool, rows, options);
     print::text(b"COMT");
-    length(end.at);
+    print::length(end.at);
     print::front(&out, end.at);
 }
 

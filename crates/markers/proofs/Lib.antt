@@ -8,4 +8,5 @@ pub mod ProgramLaws
 pub mod SourceLaws
 pub mod MarkerLaws
 pub mod DiinLaws
+pub mod ReadLaws
 pub mod ProgramExamples

@@ -5,7 +5,7 @@ use Rattle.markers.proofs.track.Span.clip.Tie as tie
 
 returns : tie.Need-returns
 unfolding clip
-returns c = cc
+returns c = rw (c .before .max .ensures, c .min .ensures)
 
 pub clip-spec : {M : Type 1} → statement M
 clip-spec =
