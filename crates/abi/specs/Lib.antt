@@ -1,2 +1,4 @@
 pub mod Text
 pub mod Sound
+pub mod Property
+pub mod Diin

@@ -2,3 +2,5 @@
 // its elements.
 pub mod text; // text.rt: converted texts, DIAR and DITI, COMT
 pub mod sound; // sound.rt: the CRC, the DST chunk's head and index, and reads of the sound
+pub mod property; // property.rt: PROP
+pub mod diin; // diin.rt: DIIN

@@ -25,7 +25,7 @@ fn rule(number: u8, replacement: u8) -> TextRule
     TextRule::D2
 }
 
-fn options(
+pub(crate) fn options(
     rule_number: u8,
     replacement: u8,
     empty_text: bool,
@@ -41,7 +41,7 @@ fn options(
 }
 
 // A text that may be missing.
-fn text(given: bool, start: u32, length: u32) -> Text
+pub(crate) fn text(given: bool, start: u32, length: u32) -> Text
     ensures { λ r. ⌜ r ≡ textOf given start length ⌝ }
 {
     if given {

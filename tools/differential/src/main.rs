@@ -5,6 +5,7 @@
 
 mod calls;
 mod chunks;
+mod markers;
 mod original;
 mod random;
 mod sound;
@@ -43,7 +44,7 @@ fn main() -> ExitCode {
         eprintln!("{USAGE}");
         return ExitCode::from(2);
     };
-    let subjects = [subject::run::<text::Text>, subject::run::<sound::Sound>];
+    let subjects = [subject::run::<text::Text>, subject::run::<markers::Markers>, subject::run::<sound::Sound>];
     let mut agreed = true;
     for run in subjects {
         match run(&program, seed, count) {

@@ -199,3 +199,37 @@ pub fn simplify_list<C>(
     }
     Ok(())
 }
+
+/// Keeps a change if it changes anything and the case still fails; answers whether it did.
+pub fn keep<C: Clone + PartialEq>(
+    case: &mut C,
+    fails: Fails<'_, C>,
+    change: impl FnOnce(&mut C),
+) -> Result<bool, Halt> {
+    let mut simpler = case.clone();
+    change(&mut simpler);
+    let kept = simpler != *case && fails(&simpler)?;
+    if kept {
+        *case = simpler;
+    }
+    Ok(kept)
+}
+
+/// Makes a number of the case smaller while the case fails, in large steps first.
+pub fn smaller<C: Clone + PartialEq>(
+    case: &mut C,
+    fails: Fails<'_, C>,
+    mut now: u64,
+    least: u64,
+    set: impl Fn(&mut C, u64),
+) -> Result<(), Halt> {
+    let mut step = now - least;
+    while step > 0 {
+        if now - least >= step && keep(case, fails, |case| set(case, now - step))? {
+            now -= step;
+        } else {
+            step /= 2;
+        }
+    }
+    Ok(())
+}

@@ -8,7 +8,7 @@ use crate::chunks::{self, Chunk};
 use crate::hex;
 use crate::original::Answer;
 use crate::random::Random;
-use crate::subject::{simplify_list, Disagreement, Fails, Halt, Subject};
+use crate::subject::{keep, simplify_list, Disagreement, Fails, Halt, Subject};
 use library::text::{self as ours, Conversion, Extent, Row, Switches, D2, REMOVE, REPLACE};
 
 pub struct Text;
@@ -56,6 +56,12 @@ fn runs<T: PartialEq>(list: impl Iterator<Item = T>) -> impl Iterator<Item = (T,
     })
 }
 
+/// A text in the original's case language: UTF-8 in hexadecimal.
+pub fn utf8(values: &[u32]) -> String {
+    let characters = values.iter().map(|&value| char::from_u32(value).expect("a scalar value"));
+    hex(characters.collect::<String>().as_bytes())
+}
+
 impl Case {
     fn values(&self, text: Extent) -> &[u32] {
         &self.pool[text.start as usize..][..text.length as usize]
@@ -67,11 +73,8 @@ impl Case {
         tags.map(|text| text.extent).chain(self.comments.iter().map(extent))
     }
 
-    /// A text in the original's case language: UTF-8 in hexadecimal.
     fn utf8(&self, text: Extent) -> String {
-        let characters = self.values(text).iter();
-        let characters = characters.map(|&value| char::from_u32(value).expect("a scalar value"));
-        hex(characters.collect::<String>().as_bytes())
+        utf8(self.values(text))
     }
 }
 
@@ -309,7 +312,7 @@ fn draw_text(random: &mut Random, least: u32) -> Vec<u32> {
     draw_values(random, length)
 }
 
-fn draw_values(random: &mut Random, length: u32) -> Vec<u32> {
+pub fn draw_values(random: &mut Random, length: u32) -> Vec<u32> {
     let flavour = random.pick(&FLAVOURS);
     (0..length).map(|_| draw_value(random, flavour)).collect()
 }
@@ -361,9 +364,9 @@ fn draw(random: &mut Random) -> Case {
         })
         .collect();
 
-    let (pool, places) = lay(random, &texts);
+    let (pool, places) = lay(random, &texts, draw_other);
     let tag = |random: &mut Random, source: &Source| match *source {
-        Source::Absent => Given { given: false, extent: nowhere(random, &pool) },
+        Source::Absent => Given { given: false, extent: nowhere(random, pool.len()) },
         Source::Own(number) => Given { given: true, extent: places[number] },
         // The artist is the first text.
         Source::Shared => Given { given: true, extent: part(random, places[0], 1) },
@@ -387,17 +390,21 @@ fn draw(random: &mut Random) -> Case {
     Case { conversion, switches, pool, artist, title, comments, buffers }
 }
 
+/// A value of the pool that no text has. No scalars too: nobody may look at it.
+pub fn draw_other(random: &mut Random) -> u32 {
+    match random.between(0, 3) {
+        0 => random.between(0, u32::MAX),
+        1 => random.pick(&[0xD800, 0xDFFF, 0x110000, u32::MAX]),
+        _ => random.between(0x20, 0x7E),
+    }
+}
+
 /// A pool that holds the texts in any order, mostly with other values between and around them.
-fn lay(random: &mut Random, texts: &[Vec<u32>]) -> (Vec<u32>, Vec<Extent>) {
+pub fn lay<T: Copy>(random: &mut Random, texts: &[Vec<T>], other: fn(&mut Random) -> T) -> (Vec<T>, Vec<Extent>) {
     let most_between = random.pick(&[0, 1, 3, 20]);
-    let fill = |random: &mut Random, pool: &mut Vec<u32>| {
+    let fill = |random: &mut Random, pool: &mut Vec<T>| {
         for _ in 0..random.between(0, most_between) {
-            // No scalars too: nobody may look at these.
-            pool.push(match random.between(0, 3) {
-                0 => random.between(0, u32::MAX),
-                1 => random.pick(&[0xD800, 0xDFFF, 0x110000, u32::MAX]),
-                _ => random.between(0x20, 0x7E),
-            });
+            pool.push(other(random));
         }
     };
     let mut order: Vec<usize> = (0..texts.len()).collect();
@@ -424,9 +431,9 @@ fn part(random: &mut Random, text: Extent, least: u32) -> Extent {
     Extent { start: text.start + from, length }
 }
 
-/// An extent for a text that is not given: none, in the pool, or anywhere.
-fn nowhere(random: &mut Random, pool: &[u32]) -> Extent {
-    let most = random.pick(&[0, pool.len() as u32, u32::MAX]);
+/// An extent for a text that is not given: none, in the pool of so many elements, or anywhere.
+pub fn nowhere(random: &mut Random, pool: usize) -> Extent {
+    let most = random.pick(&[0, pool as u32, u32::MAX]);
     Extent { start: random.between(0, most), length: random.between(0, most) }
 }
 
@@ -460,6 +467,11 @@ fn draw_row(random: &mut Random, text: Extent) -> Row {
 const PLAIN: u32 = 0x41;
 
 fn simplify(case: &mut Case, fails: Fails<'_, Case>) -> Result<(), Halt> {
+    // Replacing needs a byte that may be written.
+    let fails: Fails<'_, Case> = &mut |case| {
+        let Conversion { rule, replacement } = case.conversion;
+        Ok((rule != REPLACE || (0x20..=0x7E).contains(&replacement)) && fails(case)?)
+    };
     let drop_comments = |case: &Case, gone: Range<usize>| {
         let mut simpler = case.clone();
         simpler.comments.drain(gone);
@@ -502,31 +514,9 @@ fn simplify(case: &mut Case, fails: Fails<'_, Case>) -> Result<(), Halt> {
     Ok(())
 }
 
-/// Keeps a change if it changes anything and the case still fails; answers whether it did.
-fn keep(case: &mut Case, fails: Fails<'_, Case>, change: impl FnOnce(&mut Case)) -> Result<bool, Halt> {
-    let mut simpler = case.clone();
-    change(&mut simpler);
-    // Replacing needs a byte that may be written.
-    let Conversion { rule, replacement } = simpler.conversion;
-    let valid = rule != REPLACE || (0x20..=0x7E).contains(&replacement);
-    let kept = valid && simpler != *case && fails(&simpler)?;
-    if kept {
-        *case = simpler;
-    }
-    Ok(kept)
-}
-
 /// The case without these values of the pool; `None` if a tag that is given would be empty.
 fn without_values(case: &Case, gone: Range<usize>) -> Option<Case> {
-    let moved = |place: u32| {
-        let place = place as usize;
-        let before = place.min(gone.start) + place.saturating_sub(gone.end);
-        before as u32
-    };
-    let shrunk = |text: Extent| {
-        let start = moved(text.start);
-        Extent { start, length: moved(text.start + text.length) - start }
-    };
+    let shrunk = |text: Extent| shrunk(text, &gone);
     let mut simpler = case.clone();
     simpler.pool.drain(gone.clone());
     for text in [&mut simpler.artist, &mut simpler.title] {
@@ -544,9 +534,20 @@ fn without_values(case: &Case, gone: Range<usize>) -> Option<Case> {
     Some(simpler)
 }
 
+/// A text's extent, after these elements of its pool are gone.
+pub fn shrunk(text: Extent, gone: &Range<usize>) -> Extent {
+    let moved = |place: u32| {
+        let place = place as usize;
+        let before = place.min(gone.start) + place.saturating_sub(gone.end);
+        before as u32
+    };
+    let start = moved(text.start);
+    Extent { start, length: moved(text.start + text.length) - start }
+}
+
 // Counting
 
-const RULES: [&str; 3] = ["replace", "remove", "D2"];
+pub const RULES: [&str; 3] = ["replace", "remove", "D2"];
 
 /// A count for each rule, with empty texts left out and written.
 type Line = [u64; 2 * RULES.len()];

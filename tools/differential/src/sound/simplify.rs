@@ -4,7 +4,7 @@ use std::ops::Range;
 
 use super::file::Kind;
 use super::{Case, Window};
-use crate::subject::{simplify_list, Fails, Halt};
+use crate::subject::{keep, simplify_list, smaller, Fails, Halt};
 
 pub fn simplify(case: &mut Case, fails: Fails<'_, Case>) -> Result<(), Halt> {
     keep(case, fails, |case| case.reads.clear())?;
@@ -50,36 +50,6 @@ pub fn simplify(case: &mut Case, fails: Fails<'_, Case>) -> Result<(), Halt> {
         let Window { place, length } = case.queries[number];
         smaller(case, fails, length, 0, |case, length| case.queries[number].length = length)?;
         smaller(case, fails, place, 0, |case, place| case.queries[number].place = place)?;
-    }
-    Ok(())
-}
-
-/// Keeps a change if it changes anything and the case still fails; answers whether it did.
-fn keep(case: &mut Case, fails: Fails<'_, Case>, change: impl FnOnce(&mut Case)) -> Result<bool, Halt> {
-    let mut simpler = case.clone();
-    change(&mut simpler);
-    let kept = simpler != *case && fails(&simpler)?;
-    if kept {
-        *case = simpler;
-    }
-    Ok(kept)
-}
-
-/// Makes a number of the case smaller while the case fails, in large steps first.
-fn smaller(
-    case: &mut Case,
-    fails: Fails<'_, Case>,
-    mut now: u64,
-    least: u64,
-    set: impl Fn(&mut Case, u64),
-) -> Result<(), Halt> {
-    let mut step = now - least;
-    while step > 0 {
-        if now - least >= step && keep(case, fails, |case| set(case, now - step))? {
-            now -= step;
-        } else {
-            step /= 2;
-        }
     }
     Ok(())
 }

@@ -1,0 +1,241 @@
+//! Markers and properties: the chunks PROP and DIIN.
+
+mod counts;
+mod draw;
+mod simplify;
+
+use library::markers::{self as ours, ChannelNumbers, Info, Lent, Marker, Properties, Track, INDEX, PROGRAM_START};
+use library::text::{Extent, D2, REMOVE};
+
+use self::counts::Counts;
+use crate::calls::hold;
+use crate::chunks;
+use crate::hex;
+use crate::original::Answer;
+use crate::random::Random;
+use crate::subject::{Disagreement, Fails, Halt, Subject};
+use crate::text::{utf8, RULES};
+
+pub struct Markers;
+
+/// A case as our functions are given it, and what only the original is told. It reads its texts from the pools.
+#[derive(Clone, PartialEq)]
+pub struct Case {
+    properties: Properties,
+    info: Info,
+    tracks: Vec<TrackOf>,
+    /// Read only if the markers are custom.
+    custom: Vec<MarkerOf>,
+    pool: Vec<u32>,
+    raw: Vec<u8>,
+    /// The area's configuration, which with the number of channels gives the layout.
+    config: u8,
+    /// The original is told nothing of artist and title, instead of "off".
+    unset: bool,
+    /// DIIN comes after the sound.
+    after_sound: bool,
+    /// Decides how long the lent buffers are.
+    buffers: u64,
+}
+
+#[derive(Clone, Copy, PartialEq)]
+struct TrackOf {
+    start: u32,
+    duration: u32,
+    title: Extent,
+    /// The original is given no title, and we an empty one.
+    untitled: bool,
+}
+
+#[derive(Clone, Copy, PartialEq)]
+struct MarkerOf {
+    frame: u32,
+    /// 16 bits, of which only four values have a name.
+    kind: u32,
+    flags: u32,
+    text: Extent,
+}
+
+const PROPERTY_NAMES: [&str; 5] = ["fs", "chnl", "cmpr", "abss", "lsco"];
+const INFO_NAMES: [&str; 4] = ["emid", "mark", "diar", "diti"];
+const SOURCE_NAMES: [&str; 3] = ["album", "track", "track_then_album"];
+
+/// What a number means: all above the last are as the last.
+fn meant<T: Copy>(number: u8, list: &[T]) -> T {
+    list[usize::from(number).min(list.len() - 1)]
+}
+
+fn order(numbers: &[u8], names: &[&str]) -> String {
+    numbers.iter().map(|&number| meant(number, names)).collect::<Vec<_>>().join(",")
+}
+
+fn extent([_, start, length]: ours::Text) -> Extent {
+    Extent { start, length }
+}
+
+impl Case {
+    fn values(&self, text: Extent) -> &[u32] {
+        &self.pool[text.start as usize..][..text.length as usize]
+    }
+
+    fn bytes(&self, text: Extent) -> &[u8] {
+        &self.raw[text.start as usize..][..text.length as usize]
+    }
+
+    /// The tags, each with the original's name.
+    fn tags(&self) -> [(&'static str, ours::Text); 4] {
+        let info = &self.info;
+        [
+            ("album_artist", info.album_artist),
+            ("album", info.album_title),
+            ("performer", info.track_artist),
+            ("title", info.track_title),
+        ]
+    }
+
+    fn track_rows(&self) -> Vec<Track> {
+        let row = |track: &TrackOf| [track.start, track.duration, track.title.start, track.title.length];
+        self.tracks.iter().map(row).collect()
+    }
+
+    fn marker_rows(&self) -> Vec<Marker> {
+        let row =
+            |marker: &MarkerOf| [marker.frame, marker.kind << 16 | marker.flags, marker.text.start, marker.text.length];
+        self.custom.iter().map(row).collect()
+    }
+
+    /// No DIIN of this case has more bytes.
+    fn most_info(&self) -> usize {
+        let given = |text: ours::Text| if text[0] == 0 { 0 } else { text[2] as usize };
+        let titles = self.tracks.iter().map(|track| track.title.length as usize).sum::<usize>();
+        let texts = self.custom.iter().map(|marker| marker.text.length as usize).sum::<usize>();
+        let tags = self.tags().map(|(_, tag)| given(tag)).iter().sum::<usize>();
+        let marks = 1 + 2 * self.tracks.len() + self.custom.len();
+        100 + given(self.info.emid) + titles + texts + tags + 40 * marks
+    }
+}
+
+impl Subject for Markers {
+    const NAME: &'static str = "markers and properties";
+    type Case = Case;
+    type Counts = Counts;
+
+    fn draw(random: &mut Random) -> Case {
+        draw::draw(random)
+    }
+
+    fn for_original(case: &Case) -> String {
+        let Case { properties, info, .. } = case;
+        let bit = u8::from;
+        let ChannelNumbers { given, count, numbers } = properties.numbers;
+        let numbers = numbers.iter().take(count as usize).map(u16::to_string).collect::<Vec<_>>().join(",");
+        let rule = info.conversion.rule;
+        let replacement = info.conversion.replacement;
+        // D2 does not use the replacement, but one that is no text byte is refused.
+        let replaces = rule != REMOVE && (0x20..=0x7E).contains(&replacement);
+        let departures = match (properties.d1, rule >= D2) {
+            (false, false) => "-",
+            (true, false) => "d1",
+            (false, true) => "d2",
+            (true, true) => "d1,d2",
+        };
+        let artist_title = match (info.artist_title, case.unset) {
+            (true, _) => "on",
+            (false, false) => "off",
+            (false, true) => "unset",
+        };
+        // The original has an EMID even if it is not written.
+        let emid = if info.emid[0] == 0 { &b"EMID"[..] } else { case.bytes(extent(info.emid)) };
+        let mut lines = vec![
+            format!("kind {}", if properties.dst { "dst" } else { "dsd" }),
+            format!("channels {}", properties.channels),
+            format!("config {}", case.config),
+            format!("playtime {}", info.playtime),
+            format!("range {} {}", info.first, info.end),
+            format!("property_order {}", order(&properties.order, &PROPERTY_NAMES)),
+            format!("info_order {}", order(&info.order, &INFO_NAMES)),
+            format!(
+                "local_order {}",
+                if case.after_sound { "prop,comt,sound,diin,dsti" } else { "prop,comt,diin,sound,dsti" }
+            ),
+            format!("channel_numbers {}", if given { &numbers } else { "none" }),
+            format!("lsco {}", bit(properties.loudspeaker_configuration)),
+            format!("unspecified_lsco {}", bit(properties.unspecified_loudspeaker_configuration)),
+            format!("info {}", bit(info.on)),
+            format!("empty_info {}", bit(info.empty_info)),
+            format!("emid_written {}", bit(info.emid[0] != 0)),
+            format!("emid {}", hex(emid)),
+            format!("markers {}", if info.custom_markers { "custom" } else { "toc" }),
+            format!("source_track_markers {}", bit(info.source_track_markers)),
+            format!("clipped_program {}", bit(info.clipped_program)),
+            format!("marker_text {}", if info.titles { "title" } else { "empty" }),
+            format!("artist_title {artist_title}"),
+            format!("artist_title_source {}", meant(info.artist_title_source, &SOURCE_NAMES)),
+            format!("empty_text {}", bit(info.switches.empty_text)),
+            format!("text_pad_counted {}", bit(info.switches.text_pad_counted)),
+            format!("departures {departures}"),
+        ];
+        let mut optional = |key: &str, number: Option<u32>| match number {
+            Some(number) => lines.push(format!("{key} {number}")),
+            None => lines.push(format!("{key} none")),
+        };
+        optional("absolute_start", properties.start.given.then_some(properties.start.frame));
+        optional("source_track", (info.source_track > 0).then_some(info.source_track.into()));
+        optional("replacement", replaces.then_some(replacement.into()));
+        for track in &case.tracks {
+            let title = if track.untitled { "-".into() } else { utf8(case.values(track.title)) };
+            lines.push(format!("track {} {} {title}", track.start, track.duration));
+        }
+        if info.custom_markers {
+            for MarkerOf { frame, kind, flags, text } in case.custom.iter().copied() {
+                let kind = if kind <= PROGRAM_START { kind } else { INDEX };
+                lines.push(format!("marker {frame} {kind} {flags} {}", hex(case.bytes(text))));
+            }
+        }
+        for (name, tag) in case.tags().into_iter().filter(|(_, tag)| tag[0] != 0) {
+            lines.push(format!("tag {name} {}", utf8(case.values(extent(tag)))));
+        }
+        if properties.dst {
+            lines.push(format!("lengths 3x{}", info.end - info.first));
+        }
+        lines.push(String::new());
+        lines.join("\n")
+    }
+
+    fn for_us(case: &Case) -> String {
+        let rule = meant(case.info.conversion.rule, &RULES);
+        let pool = case.pool.iter().map(|value| format!("{value:#x}")).collect::<Vec<_>>();
+        let mut lines = vec![
+            format!("{:?}", case.properties),
+            format!("{:?}", case.info),
+            format!("the rule: {rule}"),
+            format!("pool [{}]", pool.join(", ")),
+            format!("raw {}", hex(&case.raw)),
+        ];
+        lines.extend(case.track_rows().iter().map(|row| format!("track {row:?}")));
+        lines.extend(case.marker_rows().iter().map(|row| format!("marker {row:?}")));
+        lines.join("\n")
+    }
+
+    fn compare(case: &Case, answer: &Answer, counts: &mut Counts) -> Result<Vec<Disagreement>, String> {
+        let (header, trailer) = (answer.header()?, answer.trailer()?);
+        let before = chunks::before_sound(&header)?;
+        let after = chunks::all(&trailer)?;
+        let property = chunks::only(&before, b"PROP")?.ok_or("the original wrote no PROP")?;
+        let local = [before, after].concat();
+        let info = chunks::only(&local, b"DIIN")?;
+        counts.count(case, property, info)?;
+
+        let random = &mut Random::of_case(case.buffers, 0);
+        let mut found = hold("PROP", property.whole, 200, random, |out| ours::property(out, &case.properties));
+        let whole = info.map_or(&[][..], |info| info.whole);
+        let (tracks, custom) = (case.track_rows(), case.marker_rows());
+        let lent = Lent { pool: &case.pool, raw: &case.raw, tracks: &tracks, custom: &custom };
+        found.extend(hold("DIIN", whole, case.most_info(), random, |out| ours::diin(out, lent, &case.info)));
+        Ok(found)
+    }
+
+    fn simplify(case: &mut Case, fails: Fails<'_, Case>) -> Result<(), Halt> {
+        simplify::simplify(case, fails)
+    }
+}
