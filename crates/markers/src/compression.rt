@@ -16,7 +16,7 @@ const NOT_COMPRESSED: [u8; 14] = *b"not compressed";
 const DST_ENCODED: [u8; 11] = *b"DST Encoded";
 
 // The data of CMPR. Departure D1 counts the pad inside an odd one.
-pub fn cmpr_data(c: Cursor, out: &mut [u8], sound: Sound, d1: bool) -> Cursor
+pub(crate) fn cmpr_data(c: Cursor, out: &mut [u8], sound: Sound, d1: bool) -> Cursor
     ensures { λ r. ⌜ Appended (now (out .entry)) (c .at) (cmprData sound d1) (now (out .exit)) (r .at) ⌝ }
 {
     match sound {
