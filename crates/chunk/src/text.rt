@@ -33,7 +33,7 @@ impl TextOptions {
 }
 
 // Whether a value is a text byte: 0x20 to 0x7E.
-fn printable(c: u32) -> bool
+pub fn printable(c: u32) -> bool
     ensures { λ r. ⌜ r ≡ printable c ⌝ }
 {
     (0x20 <= c) & (c <= 0x7E)
@@ -47,7 +47,7 @@ fn latin1(c: u32) -> bool
 }
 
 // Whether a value is written as itself.
-fn passes(rule: TextRule, c: u32) -> bool
+pub fn passes(rule: TextRule, c: u32) -> bool
     ensures { λ r. ⌜ r ≡ passes rule c ⌝ }
 {
     match rule {

@@ -1,8 +1,8 @@
 -- Tracks and their spans (01: "clip each [start, start + duration, saturating) to the range and drop empty ones"). Assumes nothing.
-use Prim.Native.Nat.{ℕ, _+_, _*_, _-_, _^_, min, max}
+use Prim.Native.Nat.{ℕ, _+_, _*_, _-_, _/_, _^_, min, max}
 use mathlib.Core.Bool.{Bool, true, false, cond, _&&_}
 use mathlib.Core.List.{List, [], _∷_, map, flatMap}
-use lib.ListN.{take, drop, getD}
+use lib.ListN.{length, take, drop, getD}
 use lib.Dec.{leb, ltb}
 use Rattle.chunk.specs.Extent.{rows}
 use Rattle.markers.specs.declared.track.Span.{Span}
@@ -18,6 +18,11 @@ spanOf row = record {
 -- the span of track i, counted from 0
 unfoldable pub spanAt : List ℕ → ℕ → Span
 spanAt words i = spanOf (take 4 (drop (i * 4) words))
+
+-- the same, an empty one if there is no such track
+unfoldable pub trackSpan : List ℕ → ℕ → Span
+trackSpan words i =
+    cond (ltb i (length words / 4)) (spanAt words i) (record { start = 0; end = 0; title = record { start = 0; length = 0 } })
 
 -- the spans of the tracks that a build is lent
 unfoldable pub spans : List ℕ → List Span

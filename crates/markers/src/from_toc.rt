@@ -67,7 +67,7 @@ fn clipped_order(tracks: &[u32], first: u32, end: u32) -> Order
 }
 
 // Whether the tracks' spans are not empty, in order, and don't overlap.
-fn exact(tracks: &[u32]) -> bool
+pub fn exact(tracks: &[u32]) -> bool
     ensures { λ r. ⌜ r ≡ exact (spans (now (tracks .entry))) ⌝ }
 {
     let o = clipped_order(tracks, 0, u32::MAX);

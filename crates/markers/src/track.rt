@@ -2,7 +2,7 @@
 ghost use mathlib.Core.Path.{_≡_};
 ghost use Prim.Native.Nat.{_<_, _/_, min, max};
 ghost use lib.ListN.{length};
-ghost use Rattle.markers.specs.Track.{spanOf, spanAt, clip, hasFrames};
+ghost use Rattle.markers.specs.Track.{spanOf, spanAt, trackSpan, clip, hasFrames};
 use chunk::extent::Extent;
 
 // The words of a track's row: start, duration, title start, title length.
@@ -60,7 +60,7 @@ fn min(a: u32, b: u32) -> u32
 
 impl Span {
     // What is left of it between two frames.
-    pub(crate) fn clip(self, first: u32, end: u32) -> Span
+    pub fn clip(self, first: u32, end: u32) -> Span
         ensures { λ r. ⌜ r ≡ clip first end self ⌝ }
     {
         let title = self.title;
@@ -71,7 +71,7 @@ impl Span {
         }
     }
 
-    pub(crate) fn has_frames(self) -> bool
+    pub fn has_frames(self) -> bool
         ensures { λ r. ⌜ r ≡ hasFrames self ⌝ }
     {
         self.start < self.end
@@ -86,4 +86,21 @@ pub(crate) fn span_at(tracks: &[u32], i: usize) -> Span
     let at = i * WORDS;
     let to = at + WORDS;
     span_of(&tracks[at..to])
+}
+
+// The span of track i, counted from 0; an empty one if there is no such track.
+pub fn track_span(tracks: &[u32], i: usize) -> Span
+    ensures { λ r. ⌜ r ≡ trackSpan (now (tracks .entry)) i ⌝ }
+{
+    if i < tracks.len() / WORDS {
+        return span_at(tracks, i);
+    }
+    Span {
+        start: 0,
+        end: 0,
+        title: Extent {
+            start: 0,
+            length: 0,
+        },
+    }
 }

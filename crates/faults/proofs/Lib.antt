@@ -1,0 +1,4 @@
+pub mod BelowLaws
+pub mod RowLaws
+pub mod Listed
+pub mod CountLaws

@@ -1,0 +1,28 @@
+-- 32: "A marker before first or after end (32, 33: the first at fault)". 33: "Its text has a byte outside 0x20 to 0x7E and, under D2, also outside 0xA0 to
+-- 0xFF". Assumes nothing.
+use Prim.Native.Nat.{ℕ}
+use mathlib.Core.Bool.{_||_}
+use mathlib.Core.List.{List, [], _∷_}
+use lib.Dec.{ltb}
+use lib.ListN.{getD}
+use Rattle.chunk.specs.Extent.{part}
+use Rattle.chunk.specs.declared.text.TextRule.{TextRule}
+use Rattle.faults.specs.declared.verdict.Verdict.{Verdict}
+use Rattle.faults.specs.declared.row.Row.the-variants.{Marker}
+use Rattle.faults.specs.Verdict.{refuseIf, firstOf}
+use Rattle.faults.specs.Below.{firstRefused}
+use Rattle.faults.specs.Row.{rowAt, extentOf, countOfRows}
+use Rattle.faults.specs.TextBytes.{hasNoText}
+
+module _ (markers raw : List ℕ) (rule : TextRule) (first end : ℕ) where
+  -- 32 and 33 of marker k
+  abbrev pub markerFault : ℕ → Verdict
+  markerFault k =
+      firstOf
+      (refuseIf (ltb (getD (rowAt 4 markers k) 0 0) first || ltb end (getD (rowAt 4 markers k) 0 0)) 32 0
+      ∷ refuseIf (hasNoText rule (part raw (extentOf 4 (rowAt 4 markers k)))) 33 0
+      ∷ [])
+
+  -- the first marker at fault
+  unfoldable pub markerFaults : Verdict
+  markerFaults = firstRefused markerFault (countOfRows Marker markers)

@@ -1,0 +1,43 @@
+// 32 and 33: markers that are given.
+ghost use mathlib.Core.Path.{_≡_};
+ghost use Prim.Native.Nat.{_<_, _/_};
+ghost use lib.ListN.{length};
+ghost use Rattle.faults.specs.Marks.{markerFault, markerFaults};
+use crate::row::Row;
+use crate::verdict::Verdict;
+use crate::verdict::refuse_if;
+use chunk::text::TextRule;
+
+// 32 and 33 of marker k: it lies outside the range, or its text has a byte that no text has.
+fn marker_fault(
+    markers: &[u32],
+    k: usize,
+    raw: &[u8],
+    rule: TextRule,
+    first: u32,
+    end: u32,
+) -> Verdict
+    requires { ⌜ k < length (now markers) / 4 ⌝ }
+    ensures { λ r. ⌜ r ≡ markerFault (now (markers .entry)) (now (raw .entry)) rule first end k ⌝ }
+{
+    let frame = crate::row::word(markers, 4, k, 0);
+    let text = crate::row::extent_at(markers, 4, k);
+    let v32 = refuse_if((frame < first) | (end < frame), 32, 0);
+    let v33 = refuse_if(crate::text_bytes::part_has_no_text(rule, raw, text), 33, 0);
+    v32.or_else(v33)
+}
+
+// The first marker at fault.
+pub fn marker_faults(markers: &[u32], raw: &[u8], rule: TextRule, first: u32, end: u32) -> Verdict
+    ensures { λ r. ⌜ r ≡ markerFaults (now (markers .entry)) (now (raw .entry)) rule first end ⌝ }
+{
+    let kind = Row::Marker;
+    let n = kind.count(markers);
+    let mut v = Verdict::Accepted;
+    let mut k = 0;
+    while k < n {
+        v = v.or_else(marker_fault(markers, k, raw, rule, first, end));
+        k += 1;
+    }
+    v
+}
