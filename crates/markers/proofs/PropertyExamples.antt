@@ -5,8 +5,7 @@ use mathlib.Core.List.{[], _∷_, _++_, flatMap}
 use lib.ListN.{length, take}
 use Rattle.chunk.specs.Number.{be}
 use Rattle.chunk.specs.Name.{ascii, propertyOrder}
-use Rattle.chunk.specs.Chunk.{pad, chunk}
-use Rattle.chunk.specs.Text.{counts}
+use Rattle.chunk.specs.Chunk.{pad, chunk, counts}
 use Rattle.chunk.specs.Tree.{bytes, join, each}
 use Rattle.chunk.specs.declared.names.PropertyChunk.{PropertyChunk}
 use Rattle.chunk.specs.declared.names.PropertyChunk.the-variants.{SampleRate, Channels, CompressionType, AbsoluteStartTime, LoudspeakerConfiguration}

@@ -7,8 +7,7 @@ use native.Mathlib.Omega.{arith}
 use lib.ListN.{length, length-append}
 use Rattle.chunk.specs.Number.{be}
 use Rattle.chunk.specs.Name.{Name, ascii, same}
-use Rattle.chunk.specs.Chunk.{pad, chunk, occupied}
-use Rattle.chunk.specs.Text.{counts}
+use Rattle.chunk.specs.Chunk.{pad, chunk, occupied, counts}
 use Rattle.chunk.specs.Time.{timeOf, timeBytes}
 use Rattle.chunk.specs.Tree.{bytes}
 use Rattle.chunk.specs.Value.{value}
@@ -16,9 +15,8 @@ use Rattle.chunk.specs.declared.names.PropertyChunk.{PropertyChunk}
 use Rattle.chunk.specs.declared.names.PropertyChunk.the-variants.{SampleRate, Channels, CompressionType, AbsoluteStartTime, LoudspeakerConfiguration}
 use Rattle.chunk.specs.declared.time.FrameTime.{FrameTime}
 use Rattle.chunk.proofs.NumberLaws.{length-be}
-use Rattle.chunk.proofs.ChunkLaws.{length-chunk}
+use Rattle.chunk.proofs.ChunkLaws.{length-chunk, length-counts}
 use Rattle.chunk.proofs.ListLaws.{flatMap-bound}
-use Rattle.chunk.proofs.TextLaws.{length-counts}
 use Rattle.chunk.proofs.TreeLaws.{bytes-leaf, bytes-each}
 use Rattle.chunk.proofs.ValueLaws.{counted-text}
 use Rattle.markers.specs.Layout.{speakerCode}

@@ -5,19 +5,19 @@ use mathlib.Core.List.{List, []}
 use Prim.Native.Nat.{ℕ, _^_, _<_}
 use lib.ListN.{length}
 use Rattle.chunk.specs.Name.{Name, ascii, same}
-use Rattle.chunk.specs.Text.{counts}
+use Rattle.chunk.specs.Chunk.{counts}
 use Rattle.chunk.specs.Tree.{stop, leaf, node}
 use Rattle.chunk.specs.Reader.{Shaped}
 use Rattle.chunk.specs.Value.{inner, value, dsdiff}
-use Rattle.chunk.specs.declared.diin_text.Text.{Text}
-use Rattle.chunk.specs.declared.diin_text.Text.the-variants.{Absent, Given}
 use Rattle.chunk.specs.declared.names.InfoChunk.{InfoChunk}
 use Rattle.chunk.specs.declared.names.InfoChunk.the-variants.{EditedMasterId, Markers, Artist, Title}
 use Rattle.chunk.specs.declared.names.PropertyChunk.{PropertyChunk}
 use Rattle.chunk.specs.declared.names.PropertyChunk.the-variants.{SampleRate, Channels, CompressionType, AbsoluteStartTime, LoudspeakerConfiguration}
 use Rattle.chunk.proofs.TreeLaws.{shaped-each, shaped-if}
-use Rattle.chunk.proofs.DiinTextLaws.{diin-text-shaped}
 use Rattle.chunk.proofs.ValueLaws.{counted-text}
+use Rattle.texts.specs.declared.diin_text.Text.{Text}
+use Rattle.texts.specs.declared.diin_text.Text.the-variants.{Absent, Given}
+use Rattle.texts.proofs.DiinTextLaws.{diin-text-shaped}
 use Rattle.markers.specs.Marker.{markHead, markData, mark}
 use Rattle.markers.specs.Property.{idOf, contentOf, isWritten, propertyChunk, property}
 use Rattle.markers.specs.Diin.{marking, artistOf, titleOf, emid, markersOf, infoChunk, infoChunks, hasDiin, diin}

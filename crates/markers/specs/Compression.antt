@@ -5,8 +5,7 @@ use mathlib.Core.Bool.{Bool, cond}
 use mathlib.Core.List.{List, [], _++_}
 use lib.ListN.{length}
 use Rattle.chunk.specs.Name.{Name, ascii}
-use Rattle.chunk.specs.Chunk.{pad}
-use Rattle.chunk.specs.Text.{counts}
+use Rattle.chunk.specs.Chunk.{pad, counts}
 use Rattle.markers.specs.declared.compression.Sound.{Sound}
 use Rattle.markers.specs.declared.compression.Sound.the-variants.{Dsd, Dst}
 

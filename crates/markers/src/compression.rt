@@ -1,7 +1,7 @@
 // The compression type: the data of CMPR.
 ghost use mathlib.Core.List.{_++_};
 ghost use Rattle.chunk.specs.Append.{Appended};
-ghost use Rattle.chunk.specs.Text.{counts};
+ghost use Rattle.chunk.specs.Chunk.{counts};
 ghost use Rattle.markers.specs.Compression.{compressionData, cmprData};
 use chunk::Cursor;
 
