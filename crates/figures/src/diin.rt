@@ -6,7 +6,7 @@ use markers::diin::Info;
 use markers::pick::ArtistTitle;
 use markers::pick::ArtistTitleSource;
 use markers::program::ProgramOptions;
-use markers::start::Start;
+use prop::start::Start;
 use texts::diin_text::Text;
 use texts::extent::Extent;
 use texts::text::TextOptions;

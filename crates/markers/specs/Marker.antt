@@ -11,13 +11,13 @@ use Rattle.chunk.specs.Tree.{Chunks, stop, leaf}
 use Rattle.texts.specs.Extent.{part}
 use Rattle.texts.specs.Text.{textBytes, textPad}
 use Rattle.texts.specs.declared.text.TextRule.{TextRule}
+use Rattle.prop.specs.Start.{startFrame}
 use Rattle.markers.specs.declared.marker.MarkerKind.{MarkerKind}
 use Rattle.markers.specs.declared.marker.MarkerKind.the-variants.{TrackStart, TrackStop, ProgramStart, Index}
 use Rattle.markers.specs.declared.marker.MarkerText.{MarkerText}
 use Rattle.markers.specs.declared.marker.MarkerText.the-variants.{Empty, Bytes, Title}
 use Rattle.markers.specs.declared.marker.Marker.{Marker}
 use Rattle.markers.specs.declared.marker.Marking.{Marking}
-use Rattle.markers.specs.Start.{startFrame}
 
 unfoldable pub kindNumber : MarkerKind → ℕ
 kindNumber TrackStart = 0

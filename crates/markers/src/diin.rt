@@ -8,9 +8,9 @@ use crate::marker::Marking;
 use crate::pick::ArtistTitle;
 use crate::pick::ArtistTitleSource;
 use crate::program::ProgramOptions;
-use crate::start::Start;
 use chunk::Cursor;
 use chunk::names::InfoChunk;
+use prop::start::Start;
 use texts::diin_text::Text;
 use texts::text::TextOptions;
 
