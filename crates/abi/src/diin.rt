@@ -7,12 +7,12 @@ ghost use Rattle.abi.specs.Text.{optionsOf};
 ghost use Rattle.abi.specs.Property.{startOf};
 ghost use Rattle.abi.specs.Diin.{givenText, sourceOf, infoChunkOf, infoOrderOf};
 use chunk::Cursor;
-use chunk::diin_text::Text;
 use chunk::names::InfoChunk;
 use markers::diin::Info;
 use markers::pick::ArtistTitle;
 use markers::pick::ArtistTitleSource;
 use markers::program::ProgramOptions;
+use texts::diin_text::Text;
 
 // A text of three words: whether it is given (0: no), start, length.
 fn given_text(words: [u32; 3]) -> Text

@@ -2,15 +2,15 @@
 ghost use mathlib.Core.Path.{_≡_};
 ghost use Rattle.chunk.specs.Append.{Appended};
 ghost use Rattle.chunk.specs.Tree.{bytes};
-ghost use Rattle.markers.specs.Property.{property};
+ghost use Rattle.prop.specs.Property.{property};
 ghost use Rattle.abi.specs.Property.{soundOf, layoutOf, startOf, propertyChunkOf, propertyOrderOf};
 use chunk::Cursor;
 use chunk::names::PropertyChunk;
-use markers::compression::Sound;
-use markers::layout::ChannelNumbers;
-use markers::layout::Layout;
-use markers::property::Properties;
-use markers::start::Start;
+use prop::compression::Sound;
+use prop::layout::ChannelNumbers;
+use prop::layout::Layout;
+use prop::property::Properties;
+use prop::start::Start;
 
 fn sound(dst: bool) -> Sound
     ensures { λ r. ⌜ r ≡ soundOf dst ⌝ }
@@ -123,6 +123,6 @@ pub extern "C" fn jangqeruz_property(
         d1: d1,
     };
     let c = Cursor::new();
-    let end = markers::property::property(c, out, property_order(*order), p);
+    let end = prop::property::property(c, out, property_order(*order), p);
     end.at
 }

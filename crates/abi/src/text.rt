@@ -1,16 +1,16 @@
 // Texts. A text is `length` values of `pool` from `start` on. What is written into `out` is what fits of it; the answer is the length of all of it.
 ghost use mathlib.Core.Path.{_≡_};
 ghost use Rattle.chunk.specs.Append.{Appended};
-ghost use Rattle.chunk.specs.Extent.{part};
-ghost use Rattle.chunk.specs.Text.{textBytes};
-ghost use Rattle.chunk.specs.DiinText.{diinText};
-ghost use Rattle.chunk.specs.Comment.{comt};
+ghost use Rattle.texts.specs.Extent.{part};
+ghost use Rattle.texts.specs.Text.{textBytes};
+ghost use Rattle.texts.specs.DiinText.{diinText};
+ghost use Rattle.texts.specs.Comment.{comt};
 ghost use Rattle.abi.specs.Text.{ruleOf, optionsOf, textOf};
 use chunk::Cursor;
-use chunk::diin_text::Text;
-use chunk::extent::Extent;
-use chunk::text::TextOptions;
-use chunk::text::TextRule;
+use texts::diin_text::Text;
+use texts::extent::Extent;
+use texts::text::TextOptions;
+use texts::text::TextRule;
 
 // 0 replaces by a byte, 1 removes, any other is D2.
 fn rule(number: u8, replacement: u8) -> TextRule
@@ -66,7 +66,8 @@ pub extern "C" fn jangqeruz_text_bytes(
     ensures { λ r. ⌜ Appended (now (out .entry)) 0 (textBytes (ruleOf «rule_number» replacement) (part (now (pool .entry)) (record { start = start; length = length }))) (now (out .exit)) r ⌝ }
 {
     let c = Cursor::new();
-    let end = c.text_bytes(
+    let end = texts::text::text_bytes(
+        c,
         out,
         rule(rule_number, replacement),
         pool,
@@ -99,7 +100,7 @@ pub extern "C" fn jangqeruz_diin_text(
 {
     let options = options(rule_number, replacement, empty_text, text_pad_counted);
     let c = Cursor::new();
-    let end = c.diin_text(out, *id, pool, text(given, start, length), options);
+    let end = texts::diin_text::diin_text(c, out, *id, pool, text(given, start, length), options);
     end.at
 }
 
@@ -121,6 +122,6 @@ pub extern "C" fn jangqeruz_comt(
 {
     let options = options(rule_number, replacement, empty_text, text_pad_counted);
     let c = Cursor::new();
-    let end = c.comt(out, pool, rows, options);
+    let end = texts::comt::comt(c, out, pool, rows, options);
     end.at
 }

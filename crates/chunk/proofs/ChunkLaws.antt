@@ -1,13 +1,13 @@
 -- The laws of chunks. Assumes nothing.
 use mathlib.Core.Path.{_≡_}
 use mathlib.Core.List.{List, [], _∷_, _++_}
-use Prim.Native.Nat.{ℕ, _%_}
+use Prim.Native.Nat.{ℕ, _+_, _%_}
 use native.Mathlib.Omega.{arith}
 use lib.ListN.{length, length-append, length-replicate}
 use Rattle.chunk.specs.Append.{Appended}
 use Rattle.chunk.specs.Number.{be}
 use Rattle.chunk.specs.Name.{Name}
-use Rattle.chunk.specs.Chunk.{pad, chunk, occupied}
+use Rattle.chunk.specs.Chunk.{pad, chunk, occupied, counts}
 use Rattle.chunk.proofs.NumberLaws.{length-be}
 use Rattle.chunk.proofs.AppendLaws.{_then_}
 
@@ -38,3 +38,7 @@ pub chunked : (name : Name) (n : ℕ) {xs ys zs ws content : List ℕ} {a b c d 
     → Appended xs a (name ++ be 8 n) ys b → Appended ys b content zs c → Appended zs c (pad n) ws d → Appended xs a (chunk name content) ws d
 unfolding chunk
 chunked name n len head content end = rw len (head then content then end)
+
+pub length-counts : (w : ℕ) (head text : List ℕ) → length (counts w head text) ≡ length head + w + length text
+unfolding counts
+length-counts w head text = simp (length-append, length-be) (omega arith)

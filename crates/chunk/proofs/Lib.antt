@@ -3,14 +3,9 @@ pub mod AppendLaws
 pub mod NameLaws
 pub mod ChunkLaws
 pub mod ListLaws
-pub mod ExtentLaws
-pub mod TextLaws
-pub mod DiinTextLaws
-pub mod CommentLaws
 pub mod ValueLaws
 pub mod TreeLaws
 pub mod ReaderLaws
 pub mod WalkLaws
 pub mod GatherLaws
 pub mod Examples
-pub mod TextExamples

@@ -1,77 +1,24 @@
--- The reader's value of data that holds counted texts is the data without the pads. Assumes nothing.
-use mathlib.Core.Path.{_≡_, refl, ap, _∙_}
-use mathlib.Core.Bool.{true, _||_}
-use mathlib.Core.List.{List, [], _∷_, _++_, flatMap, append-assoc}
-use Prim.Native.Nat.{ℕ, _+_, _%_, _^_, _<_}
-use native.Mathlib.Omega.{arith}
-use lib.ListN.{length, take, drop, getD, length-append}
+-- The reader's value of data that ends in a counted text is the data without the pad. Assumes nothing.
+use mathlib.Core.Path.{_≡_, ap, _∙_}
+use mathlib.Core.List.{List, _++_, append-assoc}
+use Prim.Native.Nat.{ℕ, _+_, _^_, _<_}
+use lib.ListN.{length, take, drop}
 use lib.Seq.{take-at, drop-at}
 use Rattle.chunk.specs.Number.{be, num}
-use Rattle.chunk.specs.Name.{Name, ascii, same}
-use Rattle.chunk.specs.Chunk.{pad}
-use Rattle.chunk.specs.Text.{counts}
-use Rattle.chunk.specs.DiinText.{diinTextData}
-use Rattle.chunk.specs.Comment.{Written, writtenComments, commentBytes, comtData, hasComt}
-use Rattle.chunk.specs.Value.{counted, comments, value, diinTextValue, comtValue}
-use Rattle.chunk.specs.declared.text.TextOptions.{TextOptions}
+use Rattle.chunk.specs.Chunk.{counts}
+use Rattle.chunk.specs.Value.{counted}
 use Rattle.chunk.proofs.NumberLaws.{length-be, num-be}
-use Rattle.chunk.proofs.ChunkLaws.{length-pad}
-use Rattle.chunk.proofs.TextLaws.{length-counts}
-use Rattle.chunk.proofs.CommentLaws.{Fits, comments-fit, comt-count}
+use Rattle.chunk.proofs.ChunkLaws.{length-counts}
 
 -- a counted text, whatever follows it
 module _ (w : ℕ) (head text extra : List ℕ) (at : ℕ) (long : length head ≡ at) (small : length text < 256 ^ w) where
-  count-read : num (take w (drop at (counts w head text ++ extra))) ≡ length text
+  pub count-read : num (take w (drop at (counts w head text ++ extra))) ≡ length text
   unfolding counts
   count-read = simp append-assoc (rw (drop-at head _ at long, take-at (be w (length text)) _ w (length-be w _)) (num-be w _ small))
 
-  counts-long : length (counts w head text) ≡ at + w + length text
+  pub counts-long : length (counts w head text) ≡ at + w + length text
   counts-long = rw (length-counts, long)
 
   pub counted-text : counted at w (counts w head text ++ extra) ≡ counts w head text
   unfolding counted
   counted-text = ap (λ (k : ℕ). take (at + w + k) (counts w head text ++ extra)) count-read ∙ take-at (counts w head text) extra _ counts-long
-
--- DIAR and DITI, with the pad in the data and without it
-pub diin-text-value : (name : Name) → (same name (ascii "DIAR") || same name (ascii "DITI")) ≡ true
-    → (text : List ℕ) (o : TextOptions) → length text < 256 ^ 4 → value (ascii "DIIN") name (diinTextData text o) ≡ diinTextValue text
-unfolding value diinTextData same
-diin-text-value name h text o small = rw h (counted-text 4 [] text _ 0 refl small)
-
--- comments
-comments-plain : (cs : List Written) → Fits cs → comments (length cs) (flatMap commentBytes cs) ≡ flatMap (λ c. counts 4 (c .head) (c .text)) cs
-unfolding comments commentBytes flatMap
-comments-plain [] w = refl
-comments-plain (c ∷ cs) w =
-    let this = counts 4 (c .head) (c .text) in
-    let end = pad (length (c .text)) in
-    let later = flatMap commentBytes cs in
-    let l = counts-long 4 (c .head) (c .text) (end ++ later) 10 (w .0) (w .1) in
-    let long : length (this ++ end) ≡ 14 + length (c .text) + (14 + length (c .text)) % 2 = rw (length-append, length-pad, l) (omega arith) in
-    rw (
-      append-assoc this end later,
-      count-read 4 (c .head) (c .text) (end ++ later) 10 (w .0) (w .1),
-      take-at this (end ++ later) _ l,
-      ← append-assoc this end later,
-      drop-at (this ++ end) later _ long,
-      comments-plain cs (w .2),
-    )
-
-comt-plain : (cs : List Written) → length cs < 256 ^ 2 → Fits cs → value (ascii "FRM8") (ascii "COMT") (comtData cs) ≡ comtValue cs
-unfolding value comtData comtValue same
-comt-plain cs small fits =
-    let count = be 2 (length cs) in
-    let later = flatMap commentBytes cs in
-    rw (
-      take-at count later 2 (length-be 2 (length cs)),
-      drop-at count later 2 (length-be 2 (length cs)),
-      num-be 2 (length cs) small,
-      comments-plain cs fits,
-    )
-
--- COMT, of the rows that a build is lent
-pub comt-value : (pool words : List ℕ) (o : TextOptions) → ((k : ℕ) → getD words k 0 < 2 ^ 32) → hasComt (writtenComments pool words o) ≡ true
-    → value (ascii "FRM8") (ascii "COMT") (comtData (writtenComments pool words o)) ≡ comtValue (writtenComments pool words o)
-comt-value pool words o u32 has =
-    let cs = writtenComments pool words o in
-    comt-plain cs (omega (arith, comt-count cs has)) (comments-fit pool o words u32)

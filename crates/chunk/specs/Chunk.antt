@@ -17,3 +17,7 @@ chunk name content = name ++ be 8 (length content) ++ content ++ pad (length con
 -- what a chunk with d bytes of data occupies
 unfoldable pub occupied : ℕ → ℕ
 occupied d = 12 + d + d % 2
+
+-- bytes, a text's count in w bytes, and the text
+unfoldable pub counts : ℕ → List ℕ → List ℕ → List ℕ
+counts w head text = head ++ (be w (length text) ++ text)

@@ -3,10 +3,6 @@ pub mod Append
 pub mod Name
 pub mod Chunk
 pub mod Time
-pub mod Extent
-pub mod Text
-pub mod DiinText
-pub mod Comment
 pub mod Tree
 pub mod Reader
 pub mod Value

@@ -4,13 +4,11 @@
 use Prim.Native.Nat.{ℕ, zero, suc, _+_, _%_}
 use Prim.Native.String as String
 use mathlib.Core.Bool.{Bool, cond, _&&_, _||_}
-use mathlib.Core.List.{List, [], _++_, flatMap}
+use mathlib.Core.List.{List, [], _++_}
 use mathlib.Core.Option.{Option, none, some}
-use lib.ListN.{length, take, drop}
-use Rattle.chunk.specs.Number.{be, num}
+use lib.ListN.{take, drop}
+use Rattle.chunk.specs.Number.{num}
 use Rattle.chunk.specs.Name.{Name, ascii, same}
-use Rattle.chunk.specs.Text.{counts}
-use Rattle.chunk.specs.Comment.{Written}
 use Rattle.chunk.specs.Reader.{Reader}
 
 -- whether a chunk has this name under this parent
@@ -45,11 +43,3 @@ value parent name content =
 -- the reader that knows some names
 abbrev pub dsdiff : (Name → Name → Bool) → Reader
 dsdiff known = record { known = known; inner = inner; value = value }
-
--- what it is to get of DIAR and DITI: the count and the converted text
-abbrev pub diinTextValue : List ℕ → List ℕ
-diinTextValue text = counts 4 [] text
-
--- what it is to get of COMT: the count and the comments, none with a pad
-unfoldable pub comtValue : List Written → List ℕ
-comtValue cs = be 2 (length cs) ++ flatMap (λ c. counts 4 (c .head) (c .text)) cs

@@ -7,7 +7,7 @@ use lib.Dec.{eqb}
 use lib.ListN.{getD}
 use Rattle.chunk.specs.Number.{be}
 use Rattle.chunk.specs.Name.{Name, reserved}
-use Rattle.chunk.specs.Text.{printable}
+use Rattle.texts.specs.Text.{printable}
 use Rattle.faults.specs.declared.verdict.Verdict.{Verdict}
 use Rattle.faults.specs.declared.row.Row.the-variants.{Caller}
 use Rattle.faults.specs.Verdict.{refuseIf, firstOf}

@@ -5,11 +5,11 @@ use mathlib.Core.Bool.{Bool, false, cond, _&&_, _||_}
 use mathlib.Core.List.{List, [], _∷_}
 use lib.Dec.{eqb, leb, ltb}
 use lib.ListN.{length}
-use Rattle.chunk.specs.Extent.{part}
-use Rattle.chunk.specs.Text.{textBytes, isWritten}
-use Rattle.chunk.specs.Comment.{commentOf}
-use Rattle.chunk.specs.declared.text.TextOptions.{TextOptions}
-use Rattle.chunk.specs.declared.comt.Comment.{Comment}
+use Rattle.texts.specs.Extent.{part}
+use Rattle.texts.specs.Text.{textBytes, isWritten}
+use Rattle.texts.specs.Comment.{commentOf}
+use Rattle.texts.specs.declared.text.TextOptions.{TextOptions}
+use Rattle.texts.specs.declared.comt.Comment.{Comment}
 use Rattle.faults.specs.declared.verdict.Verdict.{Verdict}
 use Rattle.faults.specs.declared.row.Row.the-variants as row
 use Rattle.faults.specs.Verdict.{refuseIf, firstOf}

@@ -3,7 +3,7 @@ use Prim.Native.Nat.{ℕ, _+_}
 use mathlib.Core.Bool.{Bool, _||_}
 use mathlib.Core.List.{List}
 use lib.Dec.{ltb}
-use Rattle.chunk.specs.declared.extent.Extent.{Extent}
+use Rattle.texts.specs.declared.extent.Extent.{Extent}
 use Rattle.faults.specs.declared.row.Row.{Row}
 use Rattle.faults.specs.Row.{width, rowAt, extentOf, countOfRows, cutShort}
 use Rattle.faults.specs.Below.{any}

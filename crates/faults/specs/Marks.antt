@@ -5,8 +5,8 @@ use mathlib.Core.Bool.{_||_}
 use mathlib.Core.List.{List, [], _∷_}
 use lib.Dec.{ltb}
 use lib.ListN.{getD}
-use Rattle.chunk.specs.Extent.{part}
-use Rattle.chunk.specs.declared.text.TextRule.{TextRule}
+use Rattle.texts.specs.Extent.{part}
+use Rattle.texts.specs.declared.text.TextRule.{TextRule}
 use Rattle.faults.specs.declared.verdict.Verdict.{Verdict}
 use Rattle.faults.specs.declared.row.Row.the-variants.{Marker}
 use Rattle.faults.specs.Verdict.{refuseIf, firstOf}

@@ -4,7 +4,7 @@ use mathlib.Core.Bool.{Bool, not}
 use mathlib.Core.List.{List}
 use lib.Dec.{eqb}
 use lib.ListN.{length, take, drop, getD}
-use Rattle.chunk.specs.declared.extent.Extent.{Extent}
+use Rattle.texts.specs.declared.extent.Extent.{Extent}
 use Rattle.faults.specs.declared.row.Row.{Row}
 use Rattle.faults.specs.declared.row.Row.the-variants.{Text, Caller, Track, Marker, Comment}
 

@@ -4,7 +4,7 @@ use mathlib.Core.Bool.{Bool, _&&_, _||_}
 use mathlib.Core.List.{List}
 use lib.Dec.{leb, ltb}
 use lib.ListN.{length, getD}
-use Rattle.chunk.specs.Extent.{part}
+use Rattle.texts.specs.Extent.{part}
 use Rattle.faults.specs.declared.row.Row.{Row}
 use Rattle.faults.specs.Row.{countOfRows}
 use Rattle.faults.specs.Extents.{extentAt}

@@ -3,8 +3,8 @@ use Prim.Native.Nat.{ℕ}
 use mathlib.Core.Bool.{Bool, not}
 use mathlib.Core.List.{List}
 use lib.ListN.{length, getD}
-use Rattle.chunk.specs.Text.{passes}
-use Rattle.chunk.specs.declared.text.TextRule.{TextRule}
+use Rattle.texts.specs.Text.{passes}
+use Rattle.texts.specs.declared.text.TextRule.{TextRule}
 use Rattle.faults.specs.Below.{any}
 
 unfoldable pub hasNoText : TextRule → List ℕ → Bool

@@ -5,7 +5,7 @@ ghost use Rattle.faults.specs.Caller.{spaceThenMore, isNoName, nameFault
 use crate::row::Row;
 use crate::verdict::Verdict;
 use crate::verdict::refuse_if;
-use chunk::text::printable;
+use texts::text::printable;
 
 const SPACE: u8 = 0x20;
 

@@ -2,16 +2,16 @@
 ghost use mathlib.Core.Path.{_≡_};
 ghost use Prim.Native.Nat.{_<_, _/_};
 ghost use lib.ListN.{length};
-ghost use Rattle.chunk.specs.Comment.{commentOf};
+ghost use Rattle.texts.specs.Comment.{commentOf};
 ghost use Rattle.faults.specs.Row.{rowAt};
 ghost use Rattle.faults.specs.Comments.{dateWrong, mostReference, referenceWrong, isWrittenComment, faultOf, commentFaults};
 use crate::row::Row;
 use crate::row::word;
 use crate::verdict::Verdict;
 use crate::verdict::refuse_if;
-use chunk::comt::Comment;
-use chunk::extent::Extent;
-use chunk::text::TextOptions;
+use texts::comt::Comment;
+use texts::extent::Extent;
+use texts::text::TextOptions;
 
 // What the count of COMT can tell.
 const MOST_COMMENTS: usize = 65_535;
@@ -72,7 +72,7 @@ fn is_written(c: Comment, pool: &[u32], options: TextOptions) -> bool
 {
     let rule = options.rule;
     let text = c.text;
-    let count = chunk::text::text_count(rule, pool, text);
+    let count = texts::text::text_count(rule, pool, text);
     options.writes(count)
 }
 

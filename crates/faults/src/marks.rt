@@ -6,7 +6,7 @@ ghost use Rattle.faults.specs.Marks.{markerFault, markerFaults};
 use crate::row::Row;
 use crate::verdict::Verdict;
 use crate::verdict::refuse_if;
-use chunk::text::TextRule;
+use texts::text::TextRule;
 
 // 32 and 33 of marker k: it lies outside the range, or its text has a byte that no text has.
 fn marker_fault(

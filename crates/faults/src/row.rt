@@ -3,7 +3,7 @@ ghost use mathlib.Core.Path.{_≡_};
 ghost use Prim.Native.Nat.{_<_, _≤_, _/_};
 ghost use lib.ListN.{length, getD};
 ghost use Rattle.faults.specs.Row.{width, rowAt, extentOf, countOfRows, cutShort};
-use chunk::extent::Extent;
+use texts::extent::Extent;
 
 // What a row tells.
 pub enum Row {

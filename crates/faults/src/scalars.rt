@@ -1,9 +1,9 @@
 // 3: the values of texts are Unicode scalars.
 ghost use mathlib.Core.Path.{_≡_};
-ghost use Rattle.chunk.specs.Extent.{part};
+ghost use Rattle.texts.specs.Extent.{part};
 ghost use Rattle.faults.specs.Scalars.{isNoScalar, hasNoScalar, noScalars};
 use crate::row::Row;
-use chunk::extent::Extent;
+use texts::extent::Extent;
 
 fn is_no_scalar(x: u32) -> bool
     ensures { λ r. ⌜ r ≡ isNoScalar x ⌝ }

@@ -1,9 +1,9 @@
 // Bytes that a text of the file can't have (31, 33).
 ghost use mathlib.Core.Path.{_≡_};
-ghost use Rattle.chunk.specs.Extent.{part};
+ghost use Rattle.texts.specs.Extent.{part};
 ghost use Rattle.faults.specs.TextBytes.{hasNoText};
-use chunk::extent::Extent;
-use chunk::text::TextRule;
+use texts::extent::Extent;
+use texts::text::TextRule;
 
 // Whether one of the bytes does not pass as itself.
 fn has_no_text(rule: TextRule, bytes: &[u8]) -> bool
@@ -12,7 +12,7 @@ fn has_no_text(rule: TextRule, bytes: &[u8]) -> bool
     let mut found = false;
     let mut i = 0;
     while i < bytes.len() {
-        found = found | !chunk::text::passes(rule, bytes[i] as u32);
+        found = found | !texts::text::passes(rule, bytes[i] as u32);
         i += 1;
     }
     found

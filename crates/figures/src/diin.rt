@@ -1,16 +1,16 @@
 // DIIN and its markers. The bytes that it must have were taken out of the original's files.
 use crate::print;
 use chunk::Cursor;
-use chunk::diin_text::Text;
-use chunk::extent::Extent;
 use chunk::names::InfoChunk;
-use chunk::text::TextOptions;
-use chunk::text::TextRule;
 use markers::diin::Info;
 use markers::pick::ArtistTitle;
 use markers::pick::ArtistTitleSource;
 use markers::program::ProgramOptions;
-use markers::start::Start;
+use prop::start::Start;
+use texts::diin_text::Text;
+use texts::extent::Extent;
+use texts::text::TextOptions;
+use texts::text::TextRule;
 
 // The words of rows: a track has start, duration, title start and title length; a marker frame, kind and flags, text start and text length.
 const TOUCHING: [u32; 8] = [0, 75, 0, 0, 75, 75, 0, 0];

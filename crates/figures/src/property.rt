@@ -2,11 +2,11 @@
 use crate::print;
 use chunk::Cursor;
 use chunk::names::PropertyChunk;
-use markers::compression::Sound;
-use markers::layout::ChannelNumbers;
-use markers::layout::Layout;
-use markers::property::Properties;
-use markers::start::Start;
+use prop::compression::Sound;
+use prop::layout::ChannelNumbers;
+use prop::layout::Layout;
+use prop::property::Properties;
+use prop::start::Start;
 
 // The original's defaults: no channel numbers, no start, LSCO unless the layout is unspecified.
 fn defaults(sound: Sound, layout: Layout, channels: u8, d1: bool) -> Properties {
@@ -59,7 +59,7 @@ fn reversed() -> [PropertyChunk; 5] {
 fn property(title: &[u8], order: [PropertyChunk; 5], p: Properties) {
     let mut out = [0xEEu8; 160];
     let c = Cursor::new();
-    let end = markers::property::property(c, &mut out, order, p);
+    let end = prop::property::property(c, &mut out, order, p);
     print::text(b"PROP, ");
     print::text(title);
     print::length(end.at);

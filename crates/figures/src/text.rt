@@ -2,16 +2,16 @@
 use crate::print;
 use crate::text_cases;
 use chunk::Cursor;
-use chunk::diin_text::Text;
-use chunk::extent::Extent;
-use chunk::text::TextOptions;
-use chunk::text::TextRule;
+use texts::diin_text::Text;
+use texts::extent::Extent;
+use texts::text::TextOptions;
+use texts::text::TextRule;
 
 fn converted(pool: &[u32], text: Extent, options: TextOptions) {
     let mut out = [0xEEu8; 16];
     let c = Cursor::new();
     let rule = options.rule;
-    let end = c.text_bytes(&mut out, rule, pool, text);
+    let end = texts::text::text_bytes(c, &mut out, rule, pool, text);
     print::text(b"text");
     print::length(end.at);
     print::front(&out, end.at);
@@ -23,7 +23,7 @@ fn diin(id: [u8; 4], pool: &[u32], text: Text, options: TextOptions) {
     }
     let mut out = [0xEEu8; 32];
     let c = Cursor::new();
-    let end = c.diin_text(&mut out, id, pool, text, options);
+    let end = texts::diin_text::diin_text(c, &mut out, id, pool, text, options);
     print::text(&id);
     print::length(end.at);
     print::front(&out, end.at);
@@ -32,7 +32,7 @@ fn diin(id: [u8; 4], pool: &[u32], text: Text, options: TextOptions) {
 fn comments(pool: &[u32], rows: &[u32], options: TextOptions) {
     let mut out = [0xEEu8; 192];
     let c = Cursor::new();
-    let end = c.comt(&mut out, pool, rows, options);
+    let end = texts::comt::comt(c, &mut out, pool, rows, options);
     print::text(b"COMT");
     print::length(end.at);
     print::front(&out, end.at);

@@ -1,7 +1,4 @@
 pub mod RowLaws
-pub mod LayoutLaws
-pub mod PropertyLaws
-pub mod PropertyExamples
 pub mod TrackLaws
 pub mod OrderLaws
 pub mod ProgramLaws

@@ -5,15 +5,14 @@ use mathlib.Core.List.{List, []}
 use Prim.Native.Nat.{ℕ, _+_, _-_, _≤_, min}
 use native.Mathlib.Omega.{arith}
 use lib.ListN.{length, length-append, length-take, length-drop}
-use Rattle.chunk.specs.Extent.{part}
-use Rattle.chunk.specs.Text.{textPad}
 use Rattle.chunk.specs.Chunk.{pad}
 use Rattle.chunk.specs.Time.{timeBytes}
-use Rattle.chunk.specs.declared.extent.Extent.{Extent}
-use Rattle.chunk.specs.declared.text.TextOptions.{TextOptions}
 use Rattle.chunk.proofs.NumberLaws.{length-be}
-use Rattle.chunk.proofs.ChunkLaws.{length-pad}
-use Rattle.chunk.proofs.TextLaws.{length-counts}
+use Rattle.chunk.proofs.ChunkLaws.{length-pad, length-counts}
+use Rattle.texts.specs.Extent.{part}
+use Rattle.texts.specs.Text.{textPad}
+use Rattle.texts.specs.declared.extent.Extent.{Extent}
+use Rattle.texts.specs.declared.text.TextOptions.{TextOptions}
 use Rattle.markers.specs.Marker.{kindNumber, kindFlags, markHead, markData}
 use Rattle.markers.specs.declared.marker.MarkerKind.{MarkerKind}
 use Rattle.markers.specs.declared.marker.MarkerKind.the-variants.{TrackStart, TrackStop, ProgramStart, Index}

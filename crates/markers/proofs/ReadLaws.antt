@@ -1,30 +1,26 @@
--- What the old reader gets of PROP and DIIN: their chunks have the shape that it walks, and of MARK it gets the data without the pad. Assumes nothing.
+-- What the old reader gets of DIIN: its chunks have the shape that it walks, and of MARK it gets the data without the pad. Assumes nothing.
 use mathlib.Core.Path.{_≡_, refl}
 use mathlib.Core.Bool.{Bool}
 use mathlib.Core.List.{List, []}
 use Prim.Native.Nat.{ℕ, _^_, _<_}
 use lib.ListN.{length}
 use Rattle.chunk.specs.Name.{Name, ascii, same}
-use Rattle.chunk.specs.Text.{counts}
-use Rattle.chunk.specs.Tree.{stop, leaf, node}
+use Rattle.chunk.specs.Chunk.{counts}
+use Rattle.chunk.specs.Tree.{stop, node}
 use Rattle.chunk.specs.Reader.{Shaped}
 use Rattle.chunk.specs.Value.{inner, value, dsdiff}
-use Rattle.chunk.specs.declared.diin_text.Text.{Text}
-use Rattle.chunk.specs.declared.diin_text.Text.the-variants.{Absent, Given}
 use Rattle.chunk.specs.declared.names.InfoChunk.{InfoChunk}
 use Rattle.chunk.specs.declared.names.InfoChunk.the-variants.{EditedMasterId, Markers, Artist, Title}
-use Rattle.chunk.specs.declared.names.PropertyChunk.{PropertyChunk}
-use Rattle.chunk.specs.declared.names.PropertyChunk.the-variants.{SampleRate, Channels, CompressionType, AbsoluteStartTime, LoudspeakerConfiguration}
 use Rattle.chunk.proofs.TreeLaws.{shaped-each, shaped-if}
-use Rattle.chunk.proofs.DiinTextLaws.{diin-text-shaped}
 use Rattle.chunk.proofs.ValueLaws.{counted-text}
+use Rattle.texts.specs.declared.diin_text.Text.{Text}
+use Rattle.texts.specs.declared.diin_text.Text.the-variants.{Absent, Given}
+use Rattle.texts.proofs.DiinTextLaws.{diin-text-shaped}
 use Rattle.markers.specs.Marker.{markHead, markData, mark}
-use Rattle.markers.specs.Property.{idOf, contentOf, isWritten, propertyChunk, property}
 use Rattle.markers.specs.Diin.{marking, artistOf, titleOf, emid, markersOf, infoChunk, infoChunks, hasDiin, diin}
 use Rattle.markers.specs.declared.diin.Info.{Info}
 use Rattle.markers.specs.declared.marker.Marker.{Marker}
 use Rattle.markers.specs.declared.marker.Marking.{Marking}
-use Rattle.markers.specs.declared.property.Properties.{Properties}
 use Rattle.markers.proofs.MarkerLaws.{length-markHead}
 
 -- MARK, with the pad in the data and without it
@@ -34,24 +30,6 @@ unfolding value same markData
 mark-value how m text small = counted-text 4 (markHead how m) text _ 18 (length-markHead how m) small
 
 module _ (known : Name → Name → Bool) where
-  -- PROP
-  id-shaped : (part : PropertyChunk) (content : List ℕ) → Shaped (dsdiff known) (ascii "PROP") (leaf (idOf part) content stop)
-  unfolding idOf inner same
-  id-shaped SampleRate content = (refl, refl, tt)
-  id-shaped Channels content = (refl, refl, tt)
-  id-shaped CompressionType content = (refl, refl, tt)
-  id-shaped AbsoluteStartTime content = (refl, refl, tt)
-  id-shaped LoudspeakerConfiguration content = (refl, refl, tt)
-
-  chunk-shaped : (p : Properties) (part : PropertyChunk) → Shaped (dsdiff known) (ascii "PROP") (propertyChunk p part)
-  unfolding propertyChunk
-  chunk-shaped p part = shaped-if (dsdiff known) (ascii "PROP") (isWritten p part) (leaf (idOf part) (contentOf p part) stop) (id-shaped part (contentOf p part))
-
-  pub property-shaped : (order : List PropertyChunk) (p : Properties) → Shaped (dsdiff known) (ascii "FRM8") (property order p)
-  unfolding property inner same
-  property-shaped order p = (refl, refl, shaped-each (dsdiff known) (ascii "PROP") (propertyChunk p) (chunk-shaped p) order, tt)
-
-  -- DIIN
   emid-shaped : (raw : List ℕ) (id : Text) → Shaped (dsdiff known) (ascii "DIIN") (emid raw id)
   unfolding emid inner same
   emid-shaped raw Absent = tt

@@ -6,13 +6,13 @@ use mathlib.Core.List.{List, []}
 use lib.ListN.{length}
 use lib.Dec.{eqb, ltb}
 use Rattle.chunk.specs.Name.{ascii}
-use Rattle.chunk.specs.Extent.{part}
 use Rattle.chunk.specs.Tree.{Chunks, stop, leaf, node, bytes, each}
-use Rattle.chunk.specs.DiinText.{diinTextChunk}
 use Rattle.chunk.specs.declared.names.InfoChunk.{InfoChunk}
 use Rattle.chunk.specs.declared.names.InfoChunk.the-variants.{EditedMasterId, Markers, Artist, Title}
-use Rattle.chunk.specs.declared.diin_text.Text.{Text}
-use Rattle.chunk.specs.declared.diin_text.Text.the-variants.{Absent, Given}
+use Rattle.texts.specs.Extent.{part}
+use Rattle.texts.specs.DiinText.{diinTextChunk}
+use Rattle.texts.specs.declared.diin_text.Text.{Text}
+use Rattle.texts.specs.declared.diin_text.Text.the-variants.{Absent, Given}
 use Rattle.markers.specs.declared.marker.Marker.{Marker}
 use Rattle.markers.specs.declared.marker.Marking.{Marking}
 use Rattle.markers.specs.declared.diin.Info.{Info}

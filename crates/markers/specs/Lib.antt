@@ -1,7 +1,3 @@
-pub mod Layout
-pub mod Start
-pub mod Compression
-pub mod Property
 pub mod Marker
 pub mod Track
 pub mod Program

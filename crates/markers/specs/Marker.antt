@@ -6,17 +6,18 @@ use lib.ListN.{length}
 use Rattle.chunk.specs.Number.{be}
 use Rattle.chunk.specs.Name.{ascii}
 use Rattle.chunk.specs.Time.{timeOf, timeBytes}
-use Rattle.chunk.specs.Extent.{part}
-use Rattle.chunk.specs.Text.{textBytes, textPad, counts}
+use Rattle.chunk.specs.Chunk.{counts}
 use Rattle.chunk.specs.Tree.{Chunks, stop, leaf}
-use Rattle.chunk.specs.declared.text.TextRule.{TextRule}
+use Rattle.texts.specs.Extent.{part}
+use Rattle.texts.specs.Text.{textBytes, textPad}
+use Rattle.texts.specs.declared.text.TextRule.{TextRule}
+use Rattle.prop.specs.Start.{startFrame}
 use Rattle.markers.specs.declared.marker.MarkerKind.{MarkerKind}
 use Rattle.markers.specs.declared.marker.MarkerKind.the-variants.{TrackStart, TrackStop, ProgramStart, Index}
 use Rattle.markers.specs.declared.marker.MarkerText.{MarkerText}
 use Rattle.markers.specs.declared.marker.MarkerText.the-variants.{Empty, Bytes, Title}
 use Rattle.markers.specs.declared.marker.Marker.{Marker}
 use Rattle.markers.specs.declared.marker.Marking.{Marking}
-use Rattle.markers.specs.Start.{startFrame}
 
 unfoldable pub kindNumber : MarkerKind → ℕ
 kindNumber TrackStart = 0

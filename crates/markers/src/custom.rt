@@ -10,7 +10,7 @@ use crate::marker::MarkerKind;
 use crate::marker::MarkerText;
 use crate::marker::Marking;
 use chunk::Cursor;
-use chunk::extent::Extent;
+use texts::extent::Extent;
 
 // The words of a marker's row: frame, kind and flags in one, text start, text length.
 const WORDS: usize = 4;

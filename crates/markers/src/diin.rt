@@ -8,11 +8,11 @@ use crate::marker::Marking;
 use crate::pick::ArtistTitle;
 use crate::pick::ArtistTitleSource;
 use crate::program::ProgramOptions;
-use crate::start::Start;
 use chunk::Cursor;
-use chunk::diin_text::Text;
 use chunk::names::InfoChunk;
-use chunk::text::TextOptions;
+use prop::start::Start;
+use texts::diin_text::Text;
+use texts::text::TextOptions;
 
 // What DIIN tells.
 pub struct Info {
@@ -115,7 +115,7 @@ fn info_chunk(
             let track = track.artist;
             let album = album.artist;
             let text = chosen(info, track, album);
-            return c.diin_text(out, *b"DIAR", pool, text, options);
+            return texts::diin_text::diin_text(c, out, *b"DIAR", pool, text, options);
         }
         InfoChunk::Title => {
             let options = info.text;
@@ -124,7 +124,7 @@ fn info_chunk(
             let track = track.title;
             let album = album.title;
             let text = chosen(info, track, album);
-            return c.diin_text(out, *b"DITI", pool, text, options);
+            return texts::diin_text::diin_text(c, out, *b"DITI", pool, text, options);
         }
     }
 }

@@ -1,8 +1,4 @@
-// What DSDIFF says of the sound: PROP, and DIIN with its markers.
-pub mod layout; // layout.rt: speaker layouts, the channels' names, the speaker code
-pub mod start; // start.rt: the absolute start
-pub mod compression; // compression.rt: CMPR, DSD or DST
-pub mod property; // property.rt: PROP
+// The edited master information: DIIN with its markers.
 pub mod marker; // marker.rt: markers and MARK
 pub mod track; // track.rt: tracks, and their spans clipped to the range
 pub mod program; // program.rt: the markers of a row of spans

@@ -4,15 +4,15 @@ ghost use mathlib.Core.List.{_++_};
 ghost use lib.ListN.{length};
 ghost use Rattle.chunk.specs.Append.{Appended};
 ghost use Rattle.chunk.specs.Number.{be};
-ghost use Rattle.chunk.specs.Extent.{part};
-ghost use Rattle.chunk.specs.Text.{textPad};
 ghost use Rattle.chunk.specs.Tree.{bytes};
+ghost use Rattle.texts.specs.Extent.{part};
+ghost use Rattle.texts.specs.Text.{textPad};
 ghost use Rattle.markers.specs.Marker.{kindNumber, flagsOf, markerText, frameOf, markHead, mark};
-use crate::start::Start;
 use chunk::Cursor;
-use chunk::extent::Extent;
-use chunk::text::TextOptions;
-use chunk::text::TextRule;
+use prop::start::Start;
+use texts::extent::Extent;
+use texts::text::TextOptions;
+use texts::text::TextRule;
 
 // The two fields of MARK that hold zero: the offset in samples, and the channel (0: all).
 const OFFSET: u32 = 0;
@@ -129,7 +129,7 @@ fn marker_text(
             return pool_bytes(c, out, raw, e);
         }
         MarkerText::Title(e) => {
-            return c.text_bytes(out, rule, pool, e);
+            return texts::text::text_bytes(c, out, rule, pool, e);
         }
     }
 }
@@ -146,7 +146,7 @@ fn marker_text_count(pool: &[u32], raw: &[u8], rule: TextRule, text: MarkerText)
             return pool_count(raw, e);
         }
         MarkerText::Title(e) => {
-            return chunk::text::text_count(rule, pool, e);
+            return texts::text::text_count(rule, pool, e);
         }
     }
 }
@@ -184,7 +184,7 @@ fn mark_data(
     let c = mark_head(c, out, how, m);
     let c = c.be32(out, count);
     let c = marker_text(c, out, pool, raw, rule, text);
-    c.text_pad(out, count, options)
+    texts::text::text_pad(c, out, count, options)
 }
 
 // MARK.

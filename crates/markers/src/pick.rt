@@ -1,7 +1,7 @@
 // Whose artist and title DIIN has: the album's or the track's.
 ghost use mathlib.Core.Path.{_≡_};
 ghost use Rattle.markers.specs.Pick.{ofTrack, firstPresent, pick};
-use chunk::diin_text::Text;
+use texts::diin_text::Text;
 
 pub enum ArtistTitleSource {
     Album,

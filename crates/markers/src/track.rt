@@ -3,7 +3,7 @@ ghost use mathlib.Core.Path.{_≡_};
 ghost use Prim.Native.Nat.{_<_, _/_, min, max};
 ghost use lib.ListN.{length};
 ghost use Rattle.markers.specs.Track.{spanOf, spanAt, trackSpan, clip, hasFrames};
-use chunk::extent::Extent;
+use texts::extent::Extent;
 
 // The words of a track's row: start, duration, title start, title length.
 pub(crate) const WORDS: usize = 4;

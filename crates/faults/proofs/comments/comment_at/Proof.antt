@@ -1,6 +1,6 @@
 -- `comments::comment_at` meets its contract. Assumes nothing.
 use borrow.Author.Needs.{needs}
-use Rattle.chunk.specs.Comment.{commentOf}
+use Rattle.texts.specs.Comment.{commentOf}
 use Rattle.faults.proofs.comments.comment_at.Statement.{statement}
 use Rattle.faults.proofs.comments.comment_at.Tie as tie
 

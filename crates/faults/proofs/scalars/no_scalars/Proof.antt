@@ -3,7 +3,7 @@ use mathlib.Core.Path.{_≡_, refl}
 use Prim.Native.Nat.{_≤_, _-_}
 use native.Mathlib.Omega.{arith}
 use denote.Ref.{now}
-use Rattle.chunk.specs.Extent.{part}
+use Rattle.texts.specs.Extent.{part}
 use Rattle.faults.specs.Below.{any}
 use Rattle.faults.specs.Row.{rowAt, extentOf}
 use Rattle.faults.specs.Scalars.{hasNoScalar, noScalars}

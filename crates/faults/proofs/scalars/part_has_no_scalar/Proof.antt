@@ -1,7 +1,7 @@
 -- `scalars::part_has_no_scalar` meets its contract: the places in the pool hold the part of it. Assumes nothing.
 use denote.Ref.{now}
 use borrow.Author.Needs.{needs}
-use Rattle.chunk.proofs.ExtentLaws.{part-places}
+use Rattle.texts.proofs.ExtentLaws.{part-places}
 use Rattle.faults.proofs.scalars.part_has_no_scalar.Statement.{statement}
 use Rattle.faults.proofs.scalars.part_has_no_scalar.Tie as tie
 

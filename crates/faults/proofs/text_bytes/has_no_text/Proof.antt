@@ -4,7 +4,7 @@ use mathlib.Core.Bool.{not}
 use Prim.Native.Nat.{_≤_, _-_}
 use native.Mathlib.Omega.{arith}
 use lib.ListN.{length, getD}
-use Rattle.chunk.specs.Text.{passes}
+use Rattle.texts.specs.Text.{passes}
 use Rattle.faults.specs.Below.{any}
 use Rattle.faults.specs.TextBytes.{hasNoText}
 use Rattle.faults.proofs.BelowLaws.{below-none, below-more, below-all}

@@ -1,7 +1,7 @@
 -- `text_bytes::part_has_no_text` meets its contract: the places in the pool hold the part of it. Assumes nothing.
 use denote.Ref.{now}
 use borrow.Author.Needs.{needs}
-use Rattle.chunk.proofs.ExtentLaws.{part-places}
+use Rattle.texts.proofs.ExtentLaws.{part-places}
 use Rattle.faults.proofs.text_bytes.part_has_no_text.Statement.{statement}
 use Rattle.faults.proofs.text_bytes.part_has_no_text.Tie as tie
 

@@ -1,8 +1,8 @@
 -- `diin::emid` meets its contract. Assumes nothing.
 use denote.Ref.{now}
 use Rattle.chunk.proofs.AppendLaws.{none}
-use Rattle.chunk.proofs.ExtentLaws.{part-places}
 use Rattle.chunk.proofs.TreeLaws.{bytes-stop, bytes-leaf}
+use Rattle.texts.proofs.ExtentLaws.{part-places}
 use Rattle.markers.specs.Diin.{emid}
 use borrow.Author.Needs.{needs}
 use Rattle.markers.proofs.diin.emid.Statement.{statement}

@@ -1,6 +1,6 @@
 -- `diin::info_chunk` meets its contract, chunk by chunk. Assumes nothing.
 use borrow.Author.Needs.{needs}
-use Rattle.chunk.proofs.DiinTextLaws.{diin-text-tree}
+use Rattle.texts.proofs.DiinTextLaws.{diin-text-tree}
 use Rattle.markers.specs.Diin.{infoChunk}
 use Rattle.markers.proofs.diin.info_chunk.Statement.{statement}
 use Rattle.markers.proofs.diin.info_chunk.Tie as tie

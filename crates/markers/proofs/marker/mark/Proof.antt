@@ -2,7 +2,7 @@
 use native.Mathlib.Omega.{arith}
 use denote.Ref.{now}
 use Rattle.chunk.specs.Name.{ascii}
-use Rattle.chunk.specs.Text.{counts}
+use Rattle.chunk.specs.Chunk.{counts}
 use Rattle.chunk.proofs.AppendLaws.{measured}
 use Rattle.chunk.proofs.ChunkLaws.{chunked}
 use Rattle.chunk.proofs.TreeLaws.{bytes-leaf}

@@ -1,6 +1,6 @@
 -- `marker::pool_bytes` meets its contract: the places in the pool hold the part of it. Assumes nothing.
 use denote.Ref.{now}
-use Rattle.chunk.proofs.ExtentLaws.{part-places}
+use Rattle.texts.proofs.ExtentLaws.{part-places}
 use borrow.Author.Needs.{needs}
 use Rattle.markers.proofs.marker.pool_bytes.Statement.{statement}
 use Rattle.markers.proofs.marker.pool_bytes.Tie as tie

@@ -1,0 +1,4 @@
+pub mod LayoutLaws
+pub mod PropertyLaws
+pub mod ReadLaws
+pub mod PropertyExamples

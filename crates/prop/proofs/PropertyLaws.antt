@@ -1,0 +1,106 @@
+-- The laws of PROP and its chunks. Assumes nothing.
+use mathlib.Core.Path.{_≡_, refl, sym, ap, _∙_}
+use mathlib.Core.Bool.{Bool, true, false}
+use mathlib.Core.List.{List, [], _∷_, _++_, append-assoc, append-nil}
+use Prim.Native.Nat.{ℕ, _+_, _%_, _^_, _≤_, _<_}
+use native.Mathlib.Omega.{arith}
+use lib.ListN.{length, length-append}
+use Rattle.chunk.specs.Number.{be}
+use Rattle.chunk.specs.Name.{Name, ascii, same}
+use Rattle.chunk.specs.Chunk.{pad, chunk, occupied, counts}
+use Rattle.chunk.specs.Time.{timeOf, timeBytes}
+use Rattle.chunk.specs.Tree.{bytes}
+use Rattle.chunk.specs.Value.{value}
+use Rattle.chunk.specs.declared.names.PropertyChunk.{PropertyChunk}
+use Rattle.chunk.specs.declared.names.PropertyChunk.the-variants.{SampleRate, Channels, CompressionType, AbsoluteStartTime, LoudspeakerConfiguration}
+use Rattle.chunk.specs.declared.time.FrameTime.{FrameTime}
+use Rattle.chunk.proofs.NumberLaws.{length-be}
+use Rattle.chunk.proofs.ChunkLaws.{length-chunk, length-counts}
+use Rattle.chunk.proofs.ListLaws.{flatMap-bound}
+use Rattle.chunk.proofs.TreeLaws.{bytes-leaf, bytes-each}
+use Rattle.chunk.proofs.ValueLaws.{counted-text}
+use Rattle.prop.specs.Layout.{speakerCode}
+use Rattle.prop.specs.Start.{startFrame}
+use Rattle.prop.specs.Compression.{compressionData, cmprData}
+use Rattle.prop.specs.Property.{sampleRate, idOf, contentOf, isWritten, propertyChunk, propertyChunks}
+use Rattle.prop.specs.declared.compression.Sound.{Sound}
+use Rattle.prop.specs.declared.compression.Sound.the-variants.{Dsd, Dst}
+use Rattle.prop.specs.declared.property.Properties.{Properties}
+use Rattle.prop.proofs.LayoutLaws.{chnl-short}
+
+-- a compression type, as it is written
+module _ (kind : Name) (name : List ℕ) where
+  compression-plain : kind ++ (length name % 256 ∷ []) ++ name ≡ counts 1 kind name
+  unfolding counts be
+  compression-plain = append-assoc kind (length name % 256 ∷ []) name
+
+  pub compression-d1 : length kind ≡ 4 → kind ++ (length name % 256 ∷ []) ++ name ++ pad (5 + length name) ≡ compressionData kind name true
+  unfolding compressionData
+  compression-d1 four =
+      let long : length (counts 1 kind name) ≡ 5 + length name = omega (arith, length-counts 1 kind name) in
+      rw (compression-plain, long)
+
+  pub compression-no-d1 : kind ++ (length name % 256 ∷ []) ++ name ≡ compressionData kind name false
+  unfolding compressionData
+  compression-no-d1 = compression-plain ∙ sym (append-nil (counts 1 kind name))
+
+-- the data of CMPR has at most 20 bytes
+cmpr-short : (sound : Sound) (d1 : Bool) → length (cmprData sound d1) ≤ 20
+unfolding cmprData compressionData counts be pad
+cmpr-short Dsd true = omega arith
+cmpr-short Dsd false = omega arith
+cmpr-short Dst true = omega arith
+cmpr-short Dst false = omega arith
+
+time-short : (t : FrameTime) → length (timeBytes t) ≡ 8
+unfolding timeBytes
+time-short t = simp (length-append, length-be)
+
+module _ (p : Properties) where
+  pub content-short : (part : PropertyChunk) → length (contentOf p part) ≤ 26
+  unfolding contentOf
+  content-short SampleRate = omega (arith, length-be 4 sampleRate)
+  content-short Channels = chnl-short (p .layout) (p .channels) (p .numbers)
+  content-short CompressionType = omega (arith, cmpr-short (p .sound) (p .d1))
+  content-short AbsoluteStartTime = omega (arith, time-short (timeOf (startFrame (p .start))))
+  content-short LoudspeakerConfiguration = omega (arith, length-be 2 (speakerCode (p .layout)))
+
+  -- a chunk of PROP, if it is written
+  pub chunk-written : (part : PropertyChunk) → isWritten p part ≡ true → bytes (propertyChunk p part) ≡ chunk (idOf part) (contentOf p part)
+  unfolding propertyChunk
+  chunk-written part h = rw (h, bytes-leaf)
+
+  pub chunk-left-out : (part : PropertyChunk) → isWritten p part ≡ false → bytes (propertyChunk p part) ≡ []
+  unfolding propertyChunk bytes
+  chunk-left-out part h = rw h
+
+  length-id : (part : PropertyChunk) → length (idOf part) ≡ 4
+  unfolding idOf
+  length-id SampleRate = refl
+  length-id Channels = refl
+  length-id CompressionType = refl
+  length-id AbsoluteStartTime = refl
+  length-id LoudspeakerConfiguration = refl
+
+  chunk-short : (part : PropertyChunk) → length (bytes (propertyChunk p part)) ≤ 38
+  unfolding occupied
+  chunk-short part = go (isWritten p part) refl
+    where
+      go : (b : Bool) → isWritten p part ≡ b → length (bytes (propertyChunk p part)) ≤ 38
+      go true h = rw (chunk-written part h, length-chunk (idOf part) (contentOf p part) (length-id part)) (omega (arith, content-short part))
+      go false h = rw (chunk-left-out part h) (omega arith)
+
+  -- the data of PROP
+  pub property-short : (order : List PropertyChunk) → length order ≡ 5 → length (ascii "SND " ++ bytes (propertyChunks order p)) < 2 ^ 64
+  property-short order five =
+      omega (arith, flatMap-bound (λ part. bytes (propertyChunk p part)) 38 chunk-short order, ap length (bytes-each (propertyChunk p) order))
+
+-- what a reader is to get of CMPR: the type, the count and the name, without the pad
+abbrev pub cmprValue : Sound → List ℕ
+cmprValue Dsd = counts 1 (ascii "DSD ") (ascii "not compressed")
+cmprValue Dst = counts 1 (ascii "DST ") (ascii "DST Encoded")
+
+pub cmpr-value : (sound : Sound) (d1 : Bool) → value (ascii "PROP") (ascii "CMPR") (cmprData sound d1) ≡ cmprValue sound
+unfolding value same cmprData compressionData
+cmpr-value Dsd d1 = counted-text 1 (ascii "DSD ") (ascii "not compressed") _ 4 refl (omega arith)
+cmpr-value Dst d1 = counted-text 1 (ascii "DST ") (ascii "DST Encoded") _ 4 refl (omega arith)

@@ -1,0 +1,4 @@
+pub mod Layout
+pub mod Start
+pub mod Compression
+pub mod Property

@@ -1,0 +1,189 @@
+// The properties of the sound: the chunk PROP.
+ghost use mathlib.Core.Path.{_≡_};
+ghost use mathlib.Core.List.{_++_, flatMap};
+ghost use Prim.Native.Nat.{_≤_};
+ghost use lib.ListN.{take};
+ghost use Rattle.chunk.specs.Append.{Appended};
+ghost use Rattle.chunk.specs.Number.{be};
+ghost use Rattle.chunk.specs.Name.{Name, ascii};
+ghost use Rattle.chunk.specs.Tree.{bytes};
+ghost use Rattle.prop.specs.Property.{lscoIsOn, idOf, contentOf, isWritten, propertyChunk, propertyChunks, property};
+use crate::compression::Sound;
+use crate::layout::ChannelNumbers;
+use crate::layout::Layout;
+use crate::start::Start;
+use chunk::Cursor;
+use chunk::names::PropertyChunk;
+
+const SAMPLE_RATE: u32 = 2_822_400;
+
+// What PROP tells.
+pub struct Properties {
+    pub sound: Sound,
+    pub layout: Layout,
+    pub channels: u8,
+    pub numbers: ChannelNumbers, // of an unspecified layout
+    pub start: Start,
+    pub loudspeaker_configuration: bool, // whether LSCO is written
+    pub unspecified_loudspeaker_configuration: bool, // the same of an unspecified layout
+    pub d1: bool, // departure D1: the pad counted inside CMPR
+}
+
+// Whether LSCO is written.
+fn lsco_is_on(p: Properties) -> bool
+    ensures { λ r. ⌜ r ≡ lscoIsOn p ⌝ }
+{
+    let layout = p.layout;
+    match layout {
+        Layout::Stereo => {
+            return p.loudspeaker_configuration;
+        }
+        Layout::ThreeTwo => {
+            return p.loudspeaker_configuration;
+        }
+        Layout::FivePointOne => {
+            return p.loudspeaker_configuration;
+        }
+        Layout::Unspecified => {
+            return p.unspecified_loudspeaker_configuration;
+        }
+    }
+}
+
+fn id(part: PropertyChunk) -> [u8; 4]
+    ensures { λ r. ⌜ r ≡ idOf part ⌝ }
+{
+    match part {
+        PropertyChunk::SampleRate => {
+            return *b"FS  ";
+        }
+        PropertyChunk::Channels => {
+            return *b"CHNL";
+        }
+        PropertyChunk::CompressionType => {
+            return *b"CMPR";
+        }
+        PropertyChunk::AbsoluteStartTime => {
+            return *b"ABSS";
+        }
+        PropertyChunk::LoudspeakerConfiguration => {
+            return *b"LSCO";
+        }
+    }
+}
+
+fn is_written(p: Properties, part: PropertyChunk) -> bool
+    ensures { λ r. ⌜ r ≡ isWritten p part ⌝ }
+{
+    match part {
+        PropertyChunk::SampleRate => {
+            return true;
+        }
+        PropertyChunk::Channels => {
+            return true;
+        }
+        PropertyChunk::CompressionType => {
+            return true;
+        }
+        PropertyChunk::AbsoluteStartTime => {
+            let start = p.start;
+            return start.is_given();
+        }
+        PropertyChunk::LoudspeakerConfiguration => {
+            return lsco_is_on(p);
+        }
+    }
+}
+
+// The data of CHNL: the count and the names.
+fn chnl_data(c: Cursor, out: &mut [u8], count: u16, names: [[u8; 4]; 6]) -> Cursor
+    requires { ⌜ count ≤ 6 ⌝ }
+    ensures { λ r. ⌜ Appended (now (out .entry)) (c .at) (be 2 count ++ flatMap (λ (name : Name). name) (take count names)) (now (out .exit)) (r .at) ⌝ }
+{
+    let mut c = c.be16(out, count);
+    let n = count as usize;
+    let mut i = 0;
+    while i < n {
+        c = c.name(out, names[i]);
+        i += 1;
+    }
+    c
+}
+
+// The data of a chunk of PROP.
+fn content(c: Cursor, out: &mut [u8], p: Properties, part: PropertyChunk) -> Cursor
+    ensures { λ r. ⌜ Appended (now (out .entry)) (c .at) (contentOf p part) (now (out .exit)) (r .at) ⌝ }
+{
+    match part {
+        PropertyChunk::SampleRate => {
+            return c.be32(out, SAMPLE_RATE);
+        }
+        PropertyChunk::Channels => {
+            let layout = p.layout;
+            let channels = p.channels;
+            let numbers = p.numbers;
+            let count = crate::layout::channel_count(layout, channels);
+            let names = crate::layout::channels(layout, numbers);
+            return chnl_data(c, out, count, names);
+        }
+        PropertyChunk::CompressionType => {
+            let sound = p.sound;
+            let d1 = p.d1;
+            return crate::compression::cmpr_data(c, out, sound, d1);
+        }
+        PropertyChunk::AbsoluteStartTime => {
+            let start = p.start;
+            let frame = start.frame();
+            let time = chunk::time::time(frame as u64);
+            return c.time(out, time);
+        }
+        PropertyChunk::LoudspeakerConfiguration => {
+            let layout = p.layout;
+            let code = crate::layout::speaker_code(layout);
+            return c.be16(out, code);
+        }
+    }
+}
+
+// A chunk of PROP, if it is written.
+fn property_chunk(c: Cursor, out: &mut [u8], p: Properties, part: PropertyChunk) -> Cursor
+    ensures { λ r. ⌜ Appended (now (out .entry)) (c .at) (bytes (propertyChunk p part)) (now (out .exit)) (r .at) ⌝ }
+{
+    if !is_written(p, part) {
+        return c;
+    }
+    let mut empty = [0u8; 0];
+    let start = Cursor::new();
+    let end = content(start, &mut empty, p, part);
+    let size = end.at as u64;
+    let id = id(part);
+    let c = c.chunk_head(out, id, size);
+    let c = content(c, out, p, part);
+    c.pad(out, size)
+}
+
+// The data of PROP: its form, and its chunks in their order.
+fn property_data(c: Cursor, out: &mut [u8], order: [PropertyChunk; 5], p: Properties) -> Cursor
+    ensures { λ r. ⌜ Appended (now (out .entry)) (c .at) (ascii "SND " ++ bytes (propertyChunks order p)) (now (out .exit)) (r .at) ⌝ }
+{
+    let mut c = c.name(out, *b"SND ");
+    let mut i = 0;
+    while i < 5 {
+        c = property_chunk(c, out, p, order[i]);
+        i += 1;
+    }
+    c
+}
+
+// PROP.
+pub fn property(c: Cursor, out: &mut [u8], order: [PropertyChunk; 5], p: Properties) -> Cursor
+    ensures { λ r. ⌜ Appended (now (out .entry)) (c .at) (bytes (property order p)) (now (out .exit)) (r .at) ⌝ }
+{
+    let mut empty = [0u8; 0];
+    let start = Cursor::new();
+    let end = property_data(start, &mut empty, order, p);
+    let size = end.at as u64;
+    let c = c.chunk_head(out, *b"PROP", size);
+    let c = property_data(c, out, order, p);
+    c.pad(out, size)
+}

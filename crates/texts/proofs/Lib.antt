@@ -1,0 +1,6 @@
+pub mod ExtentLaws
+pub mod TextLaws
+pub mod DiinTextLaws
+pub mod CommentLaws
+pub mod ValueLaws
+pub mod TextExamples

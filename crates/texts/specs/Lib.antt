@@ -1,0 +1,4 @@
+pub mod Extent
+pub mod Text
+pub mod DiinText
+pub mod Comment
