@@ -1,3 +1,4 @@
+pub mod VerdictLaws
 pub mod BelowLaws
 pub mod RowLaws
 pub mod Listed

@@ -1,0 +1,64 @@
+-- All that a build is given, and the verdict on it: the first refusal of 01's list ("Turned down, in checking order"). Assumes nothing.
+use Prim.Native.Nat.{ℕ}
+use mathlib.Core.Bool.{_&&_}
+use mathlib.Core.List.{List, [], _∷_}
+use Rattle.chunk.specs.declared.names.PropertyChunk.{PropertyChunk}
+use Rattle.chunk.specs.declared.names.InfoChunk.{InfoChunk}
+use Rattle.chunk.specs.declared.names.LocalChunk.{LocalChunk}
+use Rattle.faults.specs.Verdict.{firstOf}
+use Rattle.faults.specs.Caller.{callerFaults}
+use Rattle.faults.specs.Comments.{commentFaults}
+use Rattle.faults.specs.declared.verdict.Verdict.{Verdict}
+use Rattle.checks.specs.declared.area.Area.{Area}
+use Rattle.checks.specs.declared.options.Options.{Options}
+use Rattle.checks.specs.declared.options.Settings.{Settings}
+use Rattle.checks.specs.Options.{effective, textOptions, infoOf}
+use Rattle.checks.specs.Limits.{limitFaults}
+use Rattle.checks.specs.Area.{isDst, areaFaults}
+use Rattle.checks.specs.Master.{trackFaults}
+use Rattle.checks.specs.Property.{propertyFaults}
+use Rattle.checks.specs.Info.{infoFaults}
+use Rattle.checks.specs.Local.{localFaults}
+
+pub record Inputs : Type 0 where
+  pub area : Area
+  pub options : Options
+  pub propertyOrder : List PropertyChunk
+  pub infoOrder : List InfoChunk
+  pub localOrder : List LocalChunk
+  pub localCount : ℕ
+  -- the text pool and the byte pool
+  pub pool : List ℕ
+  pub raw : List ℕ
+  -- rows of words
+  pub tracks : List ℕ
+  pub markers : List ℕ
+  pub comments : List ℕ
+  pub callers : List ℕ
+  -- of the DST frames
+  pub lengths : List ℕ
+
+-- 1 to 3, then 4 and 5
+unfoldable pub givenFaults : Options → List ℕ → List ℕ → List ℕ → List ℕ → List ℕ → List ℕ → Verdict
+givenFaults o pool raw tracks markers comments callers =
+    firstOf (limitFaults o pool raw tracks markers comments callers ∷ callerFaults callers ∷ [])
+
+-- 30 to 33, then 34 to 36, then 37 to 39
+unfoldable pub chunkFaults : Area → Options → Settings → List InfoChunk → List LocalChunk → ℕ → List ℕ → List ℕ → List ℕ → List ℕ → List ℕ → Verdict
+chunkFaults a o s infoOrder localOrder localCount pool raw tracks markers comments =
+    firstOf
+    (infoFaults a (infoOf a o s) infoOrder raw markers
+    ∷ commentFaults comments pool (textOptions o) (a .channels)
+    ∷ localFaults pool raw tracks markers comments infoOrder (infoOf a o s) (isDst (a .sound) && o .«dst_index») localOrder localCount
+    ∷ [])
+
+-- the verdict: 1 to 5, 6 to 12, 13 to 23, 24 to 29, 30 to 39
+unfoldable pub verdict : Inputs → Verdict
+verdict x =
+    firstOf
+    (givenFaults (x .options) (x .pool) (x .raw) (x .tracks) (x .markers) (x .comments) (x .callers)
+    ∷ areaFaults (x .area) (x .lengths)
+    ∷ trackFaults (x .area) (x .options) (effective (x .options)) (x .tracks)
+    ∷ propertyFaults (x .area) (x .options) (effective (x .options)) (x .propertyOrder)
+    ∷ chunkFaults (x .area) (x .options) (effective (x .options)) (x .infoOrder) (x .localOrder) (x .localCount) (x .pool) (x .raw) (x .tracks) (x .markers) (x .comments)
+    ∷ [])
