@@ -23,6 +23,11 @@ pub if-accepted : (t : Bool) (n d : ℕ) → refuseIf t n d ≡ Accepted → t �
 if-accepted true n d e = not-accepted e
 if-accepted false n d e = refl
 
+-- a check with its condition before others
+pub after : (t : Bool) (n d : ℕ) {w : Verdict} → orElse (refuseIf t n d) w ≡ Accepted → (t ≡ false) × (w ≡ Accepted)
+after true n d e = not-accepted e
+after false n d e = (refl, e)
+
 pub when-accepted : (t : Bool) (v : Verdict) → when t v ≡ Accepted → t ≡ true → v ≡ Accepted
 when-accepted t v e on = rw on at e
 
