@@ -2,3 +2,4 @@ pub mod Text
 pub mod Sound
 pub mod Property
 pub mod Diin
+pub mod Verdict

@@ -15,14 +15,14 @@ use markers::program::ProgramOptions;
 use texts::diin_text::Text;
 
 // A text of three words: whether it is given (0: no), start, length.
-fn given_text(words: [u32; 3]) -> Text
+pub(crate) fn given_text(words: [u32; 3]) -> Text
     ensures { λ r. ⌜ r ≡ givenText words ⌝ }
 {
     crate::text::text(words[0] != 0, words[1], words[2])
 }
 
 // 0 is the album's, 1 the track's, any other the track's, then the album's.
-fn artist_title_source(number: u8) -> ArtistTitleSource
+pub(crate) fn artist_title_source(number: u8) -> ArtistTitleSource
     ensures { λ r. ⌜ r ≡ sourceOf number ⌝ }
 {
     if number == 0 {
@@ -50,7 +50,7 @@ fn info_chunk(number: u8) -> InfoChunk
     InfoChunk::Title
 }
 
-fn info_order(numbers: [u8; 4]) -> [InfoChunk; 4]
+pub(crate) fn info_order(numbers: [u8; 4]) -> [InfoChunk; 4]
     ensures { λ r. ⌜ r ≡ infoOrderOf numbers ⌝ }
 {
     [

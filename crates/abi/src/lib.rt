@@ -4,3 +4,4 @@ pub mod text; // text.rt: converted texts, DIAR and DITI, COMT
 pub mod sound; // sound.rt: the CRC, the DST chunk's head and index, and reads of the sound
 pub mod property; // property.rt: PROP
 pub mod diin; // diin.rt: DIIN
+pub mod verdict; // verdict.rt: the verdict on the inputs of a build

@@ -12,7 +12,7 @@ use prop::layout::Layout;
 use prop::property::Properties;
 use prop::start::Start;
 
-fn sound(dst: bool) -> Sound
+pub(crate) fn sound(dst: bool) -> Sound
     ensures { λ r. ⌜ r ≡ soundOf dst ⌝ }
 {
     if dst {
@@ -22,7 +22,7 @@ fn sound(dst: bool) -> Sound
 }
 
 // 0 is stereo, 1 is 3/2, 2 is 5.1, any other is unspecified.
-fn layout(number: u8) -> Layout
+pub(crate) fn layout(number: u8) -> Layout
     ensures { λ r. ⌜ r ≡ layoutOf number ⌝ }
 {
     if number == 0 {
@@ -66,7 +66,7 @@ fn property_chunk(number: u8) -> PropertyChunk
     PropertyChunk::LoudspeakerConfiguration
 }
 
-fn property_order(numbers: [u8; 5]) -> [PropertyChunk; 5]
+pub(crate) fn property_order(numbers: [u8; 5]) -> [PropertyChunk; 5]
     ensures { λ r. ⌜ r ≡ propertyOrderOf numbers ⌝ }
 {
     [

@@ -20,7 +20,7 @@ use dst::lent::Fill;
 use dst::window::Window;
 
 // An offset of the index leads to the frame's data, or to its chunk's header.
-fn offset(frame_data: bool) -> DstIndexOffset
+pub(crate) fn offset(frame_data: bool) -> DstIndexOffset
     ensures { λ r. ⌜ r ≡ offsetOf «frame_data» ⌝ }
 {
     if frame_data {

@@ -113,5 +113,6 @@ pub fn verdict(
         markers,
         comments,
     );
-    a.or_else(b.or_else(c.or_else(d.or_else(e))))
+    let first = a.or_else(b.or_else(c.or_else(d.or_else(e))));
+    first
 }

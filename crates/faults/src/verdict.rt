@@ -33,10 +33,10 @@ impl Verdict {
     }
 
     // A verdict that counts only under a condition.
-    pub fn when(self, test: bool) -> Verdict
-        ensures { λ r. ⌜ r ≡ when test self ⌝ }
+    pub fn when(self, on: bool) -> Verdict
+        ensures { λ r. ⌜ r ≡ when on self ⌝ }
     {
-        if test {
+        if on {
             return self;
         }
         Verdict::Accepted

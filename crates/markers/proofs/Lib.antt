@@ -7,3 +7,4 @@ pub mod MarkerLaws
 pub mod DiinLaws
 pub mod ReadLaws
 pub mod ProgramExamples
+pub mod InsideLaws

@@ -1,4 +1,5 @@
 -- `verdict::verdict` meets its contract. Assumes nothing.
+use mathlib.Core.Path.{_∙_}
 use Rattle.checks.specs.Inputs.{verdict}
 use Rattle.checks.proofs.verdict.verdict.Statement.{statement}
 use Rattle.checks.proofs.verdict.verdict.Tie as tie
@@ -6,8 +7,8 @@ use Rattle.checks.proofs.verdict.verdict.Tie as tie
 returns : tie.Need-returns
 unfolding verdict
 returns c =
-    rw (
-      c .or-else4 .ensures,
+    c .or-else4 .ensures
+    ∙ rw (
       c .before .or-else3 .ensures,
       c .before .before .or-else2 .ensures,
       c .before .before .before .or-else .ensures,

@@ -1,0 +1,13 @@
+-- `verdict::area_of` meets its contract. Assumes nothing.
+use Rattle.abi.specs.Verdict.{areaOf}
+use Rattle.abi.proofs.verdict.area_of.Statement.{statement}
+use Rattle.abi.proofs.verdict.area_of.Tie as tie
+
+returns : tie.Need-returns
+unfolding areaOf
+returns c = cc
+
+pub area-of-spec : {M : Type 1} → statement M
+area-of-spec =
+    tie.close
+    (tie.spec (λ c κs. tt) (λ c κs. tt) (λ c κs. tt) (λ c κs. tt) (λ c κs. tt) (λ c κs. tt) (λ c κs. tt) (λ c κs. tt) returns)
