@@ -8,8 +8,8 @@ use Rattle.chunk.specs.declared.names.LocalChunk.{LocalChunk}
 use Rattle.chunk.specs.declared.names.LocalChunk.the-variants.{Property, SoundData, DstIndex, EditedMasterInfo, Comments}
 use Rattle.texts.specs.declared.diin_text.Text.{Text}
 use Rattle.prop.specs.declared.layout.ChannelNumbers.{ChannelNumbers}
-use Rattle.faults.specs.Verdict.{numberOf, detailOf}
-use Rattle.faults.specs.declared.verdict.Verdict.{Verdict}
+use Rattle.refusal.specs.Verdict.{numberOf, detailOf}
+use Rattle.refusal.specs.declared.verdict.Verdict.{Verdict}
 use Rattle.checks.specs.Inputs.{Inputs}
 use Rattle.checks.specs.declared.area.Area.{Area}
 use Rattle.checks.specs.declared.options.Switch.{Switch}

@@ -12,9 +12,9 @@ use checks::options::Switch;
 use chunk::names::InfoChunk;
 use chunk::names::LocalChunk;
 use chunk::names::PropertyChunk;
-use faults::verdict::Verdict;
 use markers::pick::ArtistTitle;
 use prop::layout::ChannelNumbers;
+use refusal::verdict::Verdict;
 use texts::diin_text::Text;
 
 fn word(words: &[u32], i: usize) -> u32

@@ -13,16 +13,16 @@ use Rattle.markers.specs.Diin.{hasDiin}
 use Rattle.markers.specs.declared.diin.Info.{Info}
 use Rattle.prop.specs.Layout.{channelCount}
 use Rattle.prop.specs.Start.{isGiven, startFrame}
-use Rattle.faults.specs.Verdict.{orElse}
-use Rattle.faults.specs.Below.{any}
+use Rattle.refusal.specs.Verdict.{orElse}
+use Rattle.refusal.specs.Below.{any}
 use Rattle.faults.specs.Extents.{tooLarge, outsidePool}
-use Rattle.faults.specs.Orders.{propertyRank, infoRank, localRank, times, eachOnce}
+use Rattle.refusal.specs.Orders.{propertyRank, infoRank, localRank, times, eachOnce}
 use Rattle.faults.specs.Lengths.{lengthWrong, lengthsWrong}
 use Rattle.faults.specs.Comments.{commentFaults}
-use Rattle.faults.specs.declared.verdict.Verdict.{Verdict}
-use Rattle.faults.specs.declared.verdict.Verdict.the-variants.{Accepted}
+use Rattle.refusal.specs.declared.verdict.Verdict.{Verdict}
+use Rattle.refusal.specs.declared.verdict.Verdict.the-variants.{Accepted}
 use Rattle.faults.specs.declared.row.Row.the-variants.{Text, Caller, Track, Marker, Comment}
-use Rattle.faults.proofs.VerdictLaws.{or-accepted, after, if-accepted, neither, inside, none-so}
+use Rattle.refusal.proofs.VerdictLaws.{or-accepted, after, if-accepted, neither, inside, none-so}
 use Rattle.faults.proofs.RowFaultLaws.{RowsFit, rows-fit, not-not}
 use Rattle.faults.proofs.CommentFaultLaws.{few-written}
 use Rattle.checks.specs.Area.{positions, isDst, lengthsWanted, longestPlaytime, areaFault, lengthsFault, rangeFault, areaFaults}

@@ -7,9 +7,9 @@ use lib.ListN.{length}
 use Rattle.prop.specs.Layout.{channelCount}
 use Rattle.prop.specs.declared.compression.Sound.{Sound}
 use Rattle.prop.specs.declared.compression.Sound.the-variants.{Dsd, Dst}
-use Rattle.faults.specs.Verdict.{refuseIf, firstOf}
+use Rattle.refusal.specs.Verdict.{refuseIf, firstOf}
 use Rattle.faults.specs.Lengths.{lengthsWrong}
-use Rattle.faults.specs.declared.verdict.Verdict.{Verdict}
+use Rattle.refusal.specs.declared.verdict.Verdict.{Verdict}
 use Rattle.checks.specs.declared.area.Area.{Area}
 
 -- the longest playtime of an area

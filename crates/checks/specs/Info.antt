@@ -8,11 +8,11 @@ use Rattle.texts.specs.declared.text.TextRule.the-variants.{Remove}
 use Rattle.texts.specs.declared.diin_text.Text.{Text}
 use Rattle.texts.specs.declared.diin_text.Text.the-variants.{Absent, Given}
 use Rattle.markers.specs.declared.diin.Info.{Info}
-use Rattle.faults.specs.Verdict.{refuseIf, firstOf, when}
-use Rattle.faults.specs.Orders.{infoRank, eachOnce}
+use Rattle.refusal.specs.Verdict.{refuseIf, firstOf, when}
+use Rattle.refusal.specs.Orders.{infoRank, eachOnce}
 use Rattle.faults.specs.TextBytes.{hasNoText}
 use Rattle.faults.specs.Marks.{markerFaults}
-use Rattle.faults.specs.declared.verdict.Verdict.{Verdict}
+use Rattle.refusal.specs.declared.verdict.Verdict.{Verdict}
 use Rattle.checks.specs.declared.area.Area.{Area}
 
 -- 31: "EMID is on with a byte outside 0x20 to 0x7E"; D2 does not widen it

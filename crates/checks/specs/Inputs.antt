@@ -5,10 +5,10 @@ use mathlib.Core.List.{List, [], _∷_}
 use Rattle.chunk.specs.declared.names.PropertyChunk.{PropertyChunk}
 use Rattle.chunk.specs.declared.names.InfoChunk.{InfoChunk}
 use Rattle.chunk.specs.declared.names.LocalChunk.{LocalChunk}
-use Rattle.faults.specs.Verdict.{firstOf}
+use Rattle.refusal.specs.Verdict.{firstOf}
 use Rattle.faults.specs.Caller.{callerFaults}
 use Rattle.faults.specs.Comments.{commentFaults}
-use Rattle.faults.specs.declared.verdict.Verdict.{Verdict}
+use Rattle.refusal.specs.declared.verdict.Verdict.{Verdict}
 use Rattle.checks.specs.declared.area.Area.{Area}
 use Rattle.checks.specs.declared.options.Options.{Options}
 use Rattle.checks.specs.declared.options.Settings.{Settings}

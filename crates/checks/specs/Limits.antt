@@ -5,10 +5,10 @@ use Prim.Native.Nat.{ℕ, _-_, _^_}
 use mathlib.Core.Bool.{Bool, _&&_, _||_}
 use mathlib.Core.List.{List, [], _∷_}
 use lib.ListN.{length}
-use Rattle.faults.specs.Verdict.{refuseIf, firstOf}
+use Rattle.refusal.specs.Verdict.{refuseIf, firstOf}
 use Rattle.faults.specs.Extents.{tooLarge, outsidePool}
 use Rattle.faults.specs.Scalars.{noScalars}
-use Rattle.faults.specs.declared.verdict.Verdict.{Verdict}
+use Rattle.refusal.specs.declared.verdict.Verdict.{Verdict}
 use Rattle.faults.specs.declared.row.Row.the-variants.{Text, Caller, Track, Marker, Comment}
 use Rattle.checks.specs.declared.options.Options.{Options}
 use Rattle.checks.specs.Options.{tagRows, idRow}

@@ -11,10 +11,10 @@ use Rattle.chunk.specs.declared.names.LocalChunk.{LocalChunk}
 use Rattle.chunk.specs.declared.names.LocalChunk.the-variants.{Property, SoundData, DstIndex, EditedMasterInfo, Comments}
 use Rattle.markers.specs.Diin.{hasDiin}
 use Rattle.markers.specs.declared.diin.Info.{Info}
-use Rattle.faults.specs.Verdict.{refuseIf, firstOf}
-use Rattle.faults.specs.Below.{any}
-use Rattle.faults.specs.Orders.{localRank, times}
-use Rattle.faults.specs.declared.verdict.Verdict.{Verdict}
+use Rattle.refusal.specs.Verdict.{refuseIf, firstOf}
+use Rattle.refusal.specs.Below.{any}
+use Rattle.refusal.specs.Orders.{localRank, times}
+use Rattle.refusal.specs.declared.verdict.Verdict.{Verdict}
 
 -- a name is there twice
 abbrev pub repeats : List ℕ → Bool

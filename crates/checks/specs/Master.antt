@@ -6,10 +6,10 @@ use lib.Dec.{eqb, ltb}
 use Rattle.markers.specs.Track.{trackSpan, clip, hasFrames, spans, exact}
 use Rattle.prop.specs.declared.layout.Layout.{Layout}
 use Rattle.prop.specs.declared.layout.Layout.the-variants.{Stereo, ThreeTwo, FivePointOne, Unspecified}
-use Rattle.faults.specs.Verdict.{refuseIf, firstOf, when}
+use Rattle.refusal.specs.Verdict.{refuseIf, firstOf, when}
 use Rattle.faults.specs.Row.{countOfRows}
 use Rattle.faults.specs.Durations.{shortTracks}
-use Rattle.faults.specs.declared.verdict.Verdict.{Verdict}
+use Rattle.refusal.specs.declared.verdict.Verdict.{Verdict}
 use Rattle.faults.specs.declared.row.Row.the-variants.{Track}
 use Rattle.checks.specs.declared.area.Area.{Area}
 use Rattle.checks.specs.declared.options.Options.{Options}

@@ -9,10 +9,10 @@ use Rattle.chunk.specs.declared.names.PropertyChunk.{PropertyChunk}
 use Rattle.prop.specs.Start.{isGiven, startFrame}
 use Rattle.prop.specs.declared.start.Start.{Start}
 use Rattle.prop.specs.declared.layout.ChannelNumbers.{ChannelNumbers}
-use Rattle.faults.specs.Verdict.{refuseIf, firstOf, when}
-use Rattle.faults.specs.Orders.{propertyRank, eachOnce}
-use Rattle.faults.specs.ChannelNumbers.{numberFaults}
-use Rattle.faults.specs.declared.verdict.Verdict.{Verdict}
+use Rattle.refusal.specs.Verdict.{refuseIf, firstOf, when}
+use Rattle.refusal.specs.Orders.{propertyRank, eachOnce}
+use Rattle.refusal.specs.ChannelNumbers.{numberFaults}
+use Rattle.refusal.specs.declared.verdict.Verdict.{Verdict}
 use Rattle.checks.specs.declared.area.Area.{Area}
 use Rattle.checks.specs.declared.options.Options.{Options}
 use Rattle.checks.specs.declared.options.Replacement.{Replacement}

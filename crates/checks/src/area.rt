@@ -1,10 +1,10 @@
 // The area that is written, and its range (6 to 12).
 ghost use mathlib.Core.Path.{_≡_};
 ghost use Rattle.checks.specs.Area.{positions, isDst, lengthsWanted, areaFault, lengthsFault, rangeFault, areaFaults};
-use faults::verdict::Verdict;
-use faults::verdict::refuse_if;
 use prop::compression::Sound;
 use prop::layout::Layout;
+use refusal::verdict::Verdict;
+use refusal::verdict::refuse_if;
 
 // The last frame of an area, and the longest playtime.
 pub(crate) const LONGEST_PLAYTIME: u32 = 1_151_999;

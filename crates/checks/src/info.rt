@@ -3,9 +3,9 @@ ghost use mathlib.Core.Path.{_≡_};
 ghost use Rattle.checks.specs.Info.{idWrong, infoFaults};
 use crate::area::Area;
 use chunk::names::InfoChunk;
-use faults::verdict::Verdict;
-use faults::verdict::refuse_if;
 use markers::diin::Info;
+use refusal::verdict::Verdict;
+use refusal::verdict::refuse_if;
 use texts::diin_text::Text;
 use texts::text::TextRule;
 
@@ -35,8 +35,8 @@ pub(crate) fn info_faults(
     let id = info.emid;
     let text = info.text;
     let rule = text.rule;
-    let ranks = faults::orders::info_ranks(order);
-    let v30 = refuse_if(!faults::orders::each_once(&ranks, 4), 30, 0);
+    let ranks = refusal::orders::info_ranks(order);
+    let v30 = refuse_if(!refusal::orders::each_once(&ranks, 4), 30, 0);
     let v31 = refuse_if(id_wrong(raw, id), 31, 0);
     let v32 = faults::marks::marker_faults(markers, raw, rule, area.first, area.end);
     let v32 = v32.when(info.custom_markers);

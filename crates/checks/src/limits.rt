@@ -7,8 +7,8 @@ use faults::extents::RowFaults;
 use faults::extents::extents;
 use faults::row::Row;
 use faults::scalars::no_scalars;
-use faults::verdict::Verdict;
-use faults::verdict::refuse_if;
+use refusal::verdict::Verdict;
+use refusal::verdict::refuse_if;
 
 const LONGEST_TEXT: u32 = 65_535;
 

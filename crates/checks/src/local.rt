@@ -9,13 +9,13 @@ ghost use Rattle.checks.specs.Local.{repeats, lacks, soundFirst, soundBe
 use chunk::Cursor;
 use chunk::names::InfoChunk;
 use chunk::names::LocalChunk;
-use faults::orders::times;
-use faults::verdict::Verdict;
-use faults::verdict::refuse_if;
 use markers::diin::Info;
+use refusal::orders::times;
+use refusal::verdict::Verdict;
+use refusal::verdict::refuse_if;
 use texts::text::TextOptions;
 
-// The numbers of the names, as `faults::orders::local_ranks` gives them.
+// The numbers of the names, as `refusal::orders::local_ranks` gives them.
 const PROPERTY: u32 = 0;
 
 const SOUND_DATA: u32 = 1;
@@ -148,7 +148,7 @@ pub(crate) fn local_faults(
 ) -> Verdict
     ensures { λ r. ⌜ r ≡ localFaults (now (pool .entry)) (now (raw .entry)) (now (tracks .entry)) (now (markers .entry)) (now (comments .entry)) order info «dst_index» local count ⌝ }
 {
-    let ranks = faults::orders::local_ranks(local);
+    let ranks = refusal::orders::local_ranks(local);
     let n = at_most_five(count);
     let repeated = repeats(&ranks[..n]);
     let lacking = lacks_any(

@@ -6,9 +6,9 @@ use crate::area::LONGEST_PLAYTIME;
 use crate::options::Options;
 use crate::options::Settings;
 use faults::row::Row;
-use faults::verdict::Verdict;
-use faults::verdict::refuse_if;
 use prop::layout::Layout;
+use refusal::verdict::Verdict;
+use refusal::verdict::refuse_if;
 
 // 13 and 14
 fn source_fault(area: Area, tracks: &[u32], source_track: u8) -> Verdict

@@ -7,10 +7,10 @@ use crate::options::Options;
 use crate::options::Replacement;
 use crate::options::Settings;
 use chunk::names::PropertyChunk;
-use faults::verdict::Verdict;
-use faults::verdict::refuse_if;
 use prop::layout::ChannelNumbers;
 use prop::start::Start;
+use refusal::verdict::Verdict;
+use refusal::verdict::refuse_if;
 
 // The last frame of a day.
 const LAST_FRAME_OF_DAY: u64 = 6_479_999;
@@ -60,7 +60,7 @@ fn numbers_fault(area: Area, numbers: ChannelNumbers) -> Verdict
     let list = words(list);
     let n = at_most_six(numbers.count);
     let v25 = refuse_if(numbers.count != area.channels as u32, 25, 0);
-    let v26 = faults::channel_numbers::number_faults(&list[..n]);
+    let v26 = refusal::channel_numbers::number_faults(&list[..n]);
     let v = v25.or_else(v26);
     v.when(crate::master::is_unspecified(layout) & numbers.given)
 }
@@ -85,10 +85,10 @@ pub(crate) fn property_faults(
     let replacement = o.text_replacement;
     let numbers = o.channel_numbers;
     let start = s.start;
-    let ranks = faults::orders::property_ranks(order);
+    let ranks = refusal::orders::property_ranks(order);
     let v24 = refuse_if(replacement_wrong(replacement), 24, 0);
     let v25 = numbers_fault(area, numbers);
-    let v28 = refuse_if(!faults::orders::each_once(&ranks, 5), 28, 0);
+    let v28 = refuse_if(!refusal::orders::each_once(&ranks, 5), 28, 0);
     let v29 = start_fault(area, start);
     v24.or_else(v25.or_else(v28.or_else(v29)))
 }

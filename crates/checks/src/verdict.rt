@@ -7,7 +7,7 @@ use crate::options::Settings;
 use chunk::names::InfoChunk;
 use chunk::names::LocalChunk;
 use chunk::names::PropertyChunk;
-use faults::verdict::Verdict;
+use refusal::verdict::Verdict;
 
 // 1 to 5
 fn given_faults(

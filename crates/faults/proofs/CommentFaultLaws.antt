@@ -15,13 +15,13 @@ use Rattle.texts.specs.Comment.{writtenComment, writtenComments, asWritten, com
 use Rattle.texts.specs.declared.text.TextOptions.{TextOptions}
 use Rattle.texts.specs.declared.comt.Comment.{Comment}
 use Rattle.texts.proofs.CommentLaws.{firstComments, comments-next, comments-all}
-use Rattle.faults.specs.Below.{below, howMany}
-use Rattle.faults.specs.Verdict.{refuseIf, orElse}
+use Rattle.refusal.specs.Below.{below, howMany}
+use Rattle.refusal.specs.Verdict.{refuseIf, orElse}
 use Rattle.faults.specs.Row.{rowAt, countOfRows}
 use Rattle.faults.specs.Comments.{isWrittenComment, dateWrong, referenceWrong, faultOf, writtenAt, commentAt, commentFault, commentFaults}
-use Rattle.faults.specs.declared.verdict.Verdict.the-variants.{Accepted}
+use Rattle.refusal.specs.declared.verdict.Verdict.the-variants.{Accepted}
 use Rattle.faults.specs.declared.row.Row.the-variants as row
-use Rattle.faults.proofs.VerdictLaws.{after, if-accepted, none-refused}
+use Rattle.refusal.proofs.VerdictLaws.{after, if-accepted, none-refused}
 
 -- one more at most 65,535 times
 few : (w : ℕ → Bool) (n : ℕ) → ((k : ℕ) → k < n → (w k && leb 65_535 (howMany w k)) ≡ false) → howMany w n ≤ 65_535

@@ -9,7 +9,7 @@ use borrow.Author.Tests.{ltb-false, eqb-true}
 use Rattle.faults.specs.Row.{width, countOfRows, cutShort}
 use Rattle.faults.specs.Extents.{extentAt, isLong, isOutside, tooLarge, outsidePool}
 use Rattle.faults.specs.declared.row.Row.{Row}
-use Rattle.faults.proofs.VerdictLaws.{neither, none-so}
+use Rattle.refusal.proofs.VerdictLaws.{neither, none-so}
 
 pub record RowsFit (kind : Row) (words : List ℕ) (most longest pool : ℕ) : Type 0 where
   pub few : countOfRows kind words ≤ most

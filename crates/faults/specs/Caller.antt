@@ -8,10 +8,10 @@ use lib.ListN.{getD}
 use Rattle.chunk.specs.Number.{be}
 use Rattle.chunk.specs.Name.{Name, reserved}
 use Rattle.texts.specs.Text.{printable}
-use Rattle.faults.specs.declared.verdict.Verdict.{Verdict}
+use Rattle.refusal.specs.declared.verdict.Verdict.{Verdict}
 use Rattle.faults.specs.declared.row.Row.the-variants.{Caller}
-use Rattle.faults.specs.Verdict.{refuseIf, firstOf}
-use Rattle.faults.specs.Below.{firstRefused}
+use Rattle.refusal.specs.Verdict.{refuseIf, firstOf}
+use Rattle.refusal.specs.Below.{firstRefused}
 use Rattle.faults.specs.Row.{rowAt, countOfRows}
 
 -- whether all bytes are text bytes

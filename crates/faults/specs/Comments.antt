@@ -10,10 +10,10 @@ use Rattle.texts.specs.Text.{textBytes, isWritten}
 use Rattle.texts.specs.Comment.{commentOf}
 use Rattle.texts.specs.declared.text.TextOptions.{TextOptions}
 use Rattle.texts.specs.declared.comt.Comment.{Comment}
-use Rattle.faults.specs.declared.verdict.Verdict.{Verdict}
+use Rattle.refusal.specs.declared.verdict.Verdict.{Verdict}
 use Rattle.faults.specs.declared.row.Row.the-variants as row
-use Rattle.faults.specs.Verdict.{refuseIf, firstOf}
-use Rattle.faults.specs.Below.{firstRefused, howMany}
+use Rattle.refusal.specs.Verdict.{refuseIf, firstOf}
+use Rattle.refusal.specs.Below.{firstRefused, howMany}
 use Rattle.faults.specs.Row.{rowAt, countOfRows}
 
 abbrev pub dateWrong : Comment → Bool

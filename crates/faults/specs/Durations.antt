@@ -3,10 +3,10 @@ use Prim.Native.Nat.{ℕ, _+_}
 use mathlib.Core.List.{List}
 use lib.Dec.{ltb}
 use lib.ListN.{getD}
-use Rattle.faults.specs.declared.verdict.Verdict.{Verdict}
+use Rattle.refusal.specs.declared.verdict.Verdict.{Verdict}
 use Rattle.faults.specs.declared.row.Row.the-variants.{Track}
-use Rattle.faults.specs.Verdict.{refuseIf}
-use Rattle.faults.specs.Below.{firstRefused}
+use Rattle.refusal.specs.Verdict.{refuseIf}
+use Rattle.refusal.specs.Below.{firstRefused}
 use Rattle.faults.specs.Row.{rowAt, countOfRows}
 
 abbrev pub shortTrack : List ℕ → ℕ → Verdict

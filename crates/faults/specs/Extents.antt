@@ -6,7 +6,7 @@ use lib.Dec.{ltb}
 use Rattle.texts.specs.declared.extent.Extent.{Extent}
 use Rattle.faults.specs.declared.row.Row.{Row}
 use Rattle.faults.specs.Row.{width, rowAt, extentOf, countOfRows, cutShort}
-use Rattle.faults.specs.Below.{any}
+use Rattle.refusal.specs.Below.{any}
 
 -- the extent that row k names
 abbrev pub extentAt : Row → List ℕ → ℕ → Extent

@@ -4,7 +4,7 @@ use mathlib.Core.Bool.{Bool, _||_}
 use mathlib.Core.List.{List}
 use lib.Dec.{ltb}
 use lib.ListN.{length, getD}
-use Rattle.faults.specs.Below.{any}
+use Rattle.refusal.specs.Below.{any}
 
 -- the bytes of a DST frame are at most this many
 abbrev pub longestFrame : ℕ

@@ -1,13 +1,9 @@
-pub mod Verdict
-pub mod Below
 pub mod Row
 pub mod Extents
 pub mod Scalars
 pub mod Caller
 pub mod Lengths
 pub mod Durations
-pub mod Orders
-pub mod ChannelNumbers
 pub mod TextBytes
 pub mod Marks
 pub mod Comments

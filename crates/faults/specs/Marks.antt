@@ -7,10 +7,10 @@ use lib.Dec.{ltb}
 use lib.ListN.{getD}
 use Rattle.texts.specs.Extent.{part}
 use Rattle.texts.specs.declared.text.TextRule.{TextRule}
-use Rattle.faults.specs.declared.verdict.Verdict.{Verdict}
+use Rattle.refusal.specs.declared.verdict.Verdict.{Verdict}
 use Rattle.faults.specs.declared.row.Row.the-variants.{Marker}
-use Rattle.faults.specs.Verdict.{refuseIf, firstOf}
-use Rattle.faults.specs.Below.{firstRefused}
+use Rattle.refusal.specs.Verdict.{refuseIf, firstOf}
+use Rattle.refusal.specs.Below.{firstRefused}
 use Rattle.faults.specs.Row.{rowAt, extentOf, countOfRows}
 use Rattle.faults.specs.TextBytes.{hasNoText}
 

@@ -8,7 +8,7 @@ use Rattle.texts.specs.Extent.{part}
 use Rattle.faults.specs.declared.row.Row.{Row}
 use Rattle.faults.specs.Row.{countOfRows}
 use Rattle.faults.specs.Extents.{extentAt}
-use Rattle.faults.specs.Below.{any}
+use Rattle.refusal.specs.Below.{any}
 
 -- Unicode scalars are 0 to 0x10FFFF without the surrogates
 abbrev pub isNoScalar : ℕ → Bool

@@ -5,7 +5,7 @@ use mathlib.Core.List.{List}
 use lib.ListN.{length, getD}
 use Rattle.texts.specs.Text.{passes}
 use Rattle.texts.specs.declared.text.TextRule.{TextRule}
-use Rattle.faults.specs.Below.{any}
+use Rattle.refusal.specs.Below.{any}
 
 unfoldable pub hasNoText : TextRule → List ℕ → Bool
 hasNoText rule bytes = any (λ i. not (passes rule (getD bytes i 0))) (length bytes)

@@ -3,8 +3,8 @@ ghost use mathlib.Core.Path.{_≡_};
 ghost use Rattle.chunk.specs.Number.{be};
 ghost use Rattle.faults.specs.Caller.{spaceThenMore, isNoName, nameFault, callerFaults};
 use crate::row::Row;
-use crate::verdict::Verdict;
-use crate::verdict::refuse_if;
+use refusal::verdict::Verdict;
+use refusal::verdict::refuse_if;
 use texts::text::printable;
 
 const SPACE: u8 = 0x20;

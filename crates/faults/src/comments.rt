@@ -7,8 +7,8 @@ ghost use Rattle.faults.specs.Row.{rowAt};
 ghost use Rattle.faults.specs.Comments.{dateWrong, mostReference, referenceWrong, isWrittenComment, faultOf, commentFaults};
 use crate::row::Row;
 use crate::row::word;
-use crate::verdict::Verdict;
-use crate::verdict::refuse_if;
+use refusal::verdict::Verdict;
+use refusal::verdict::refuse_if;
 use texts::comt::Comment;
 use texts::extent::Extent;
 use texts::text::TextOptions;
@@ -99,7 +99,7 @@ pub fn comment_faults(comments: &[u32], pool: &[u32], options: TextOptions, chan
         let c = comment_at(comments, k);
         let written = is_written(c, pool, options);
         v = v.or_else(fault_of(c, written, before, channels));
-        before += crate::orders::one_if(written);
+        before += refusal::orders::one_if(written);
         k += 1;
     }
     v

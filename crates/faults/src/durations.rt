@@ -2,8 +2,8 @@
 ghost use mathlib.Core.Path.{_≡_};
 ghost use Rattle.faults.specs.Durations.{shortTracks};
 use crate::row::Row;
-use crate::verdict::Verdict;
-use crate::verdict::refuse_if;
+use refusal::verdict::Verdict;
+use refusal::verdict::refuse_if;
 
 const SHORTEST: u32 = 75;
 

@@ -4,8 +4,8 @@ ghost use Prim.Native.Nat.{_<_, _/_};
 ghost use lib.ListN.{length};
 ghost use Rattle.faults.specs.Marks.{markerFault, markerFaults};
 use crate::row::Row;
-use crate::verdict::Verdict;
-use crate::verdict::refuse_if;
+use refusal::verdict::Verdict;
+use refusal::verdict::refuse_if;
 use texts::text::TextRule;
 
 // 32 and 33 of marker k: it lies outside the range, or its text has a byte that no text has.

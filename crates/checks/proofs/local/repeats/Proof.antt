@@ -3,9 +3,9 @@ use mathlib.Core.Path.{_≡_, refl}
 use Prim.Native.Nat.{_≤_, _-_}
 use lib.Dec.{ltb}
 use borrow.Author.Needs.{needs}
-use Rattle.faults.specs.Below.{any}
-use Rattle.faults.specs.Orders.{times}
-use Rattle.faults.proofs.BelowLaws.{below-none, below-more, below-all}
+use Rattle.refusal.specs.Below.{any}
+use Rattle.refusal.specs.Orders.{times}
+use Rattle.refusal.proofs.BelowLaws.{below-none, below-more, below-all}
 use Rattle.checks.proofs.local.repeats.Statement.{statement}
 use Rattle.checks.proofs.local.repeats.Tie as tie
 

@@ -3,8 +3,8 @@ use mathlib.Core.Path.{_≡_, refl}
 use Prim.Native.Nat.{_≤_, _-_}
 use lib.ListN.{length}
 use borrow.Author.Needs.{needs}
-use Rattle.faults.specs.Below.{any}
-use Rattle.faults.proofs.BelowLaws.{below-none, below-more, below-all}
+use Rattle.refusal.specs.Below.{any}
+use Rattle.refusal.proofs.BelowLaws.{below-none, below-more, below-all}
 use Rattle.checks.specs.Local.{soundFirst}
 use Rattle.checks.proofs.local.sound_before_prop.Statement.{statement}
 use Rattle.checks.proofs.local.sound_before_prop.Tie as tie

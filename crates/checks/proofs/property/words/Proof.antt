@@ -1,5 +1,5 @@
 -- `property::words` meets its contract. Assumes nothing.
-use Rattle.faults.proofs.Listed.{by-elements}
+use Rattle.refusal.proofs.Listed.{by-elements}
 use borrow.Author.Needs.{needs}
 use Rattle.checks.proofs.property.words.Statement.{statement}
 use Rattle.checks.proofs.property.words.Tie as tie

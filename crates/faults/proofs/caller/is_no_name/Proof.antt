@@ -3,7 +3,7 @@ use mathlib.Core.Path.{_≡_, ap}
 use lib.ListN.{length}
 use borrow.Author.Needs.{needs}
 use Rattle.faults.specs.Caller.{isNoName}
-use Rattle.faults.proofs.Listed.{by-elements}
+use Rattle.refusal.proofs.Listed.{by-elements}
 use Rattle.faults.proofs.caller.is_no_name.Statement.{statement}
 use Rattle.faults.proofs.caller.is_no_name.Tie as tie
 

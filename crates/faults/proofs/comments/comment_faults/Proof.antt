@@ -4,10 +4,10 @@ use Prim.Native.Nat.{_+_, _-_, _≤_}
 use native.Mathlib.Omega.{arith}
 use borrow.Author.Needs.{needs}
 use denote.Ref.{now}
-use Rattle.faults.specs.Below.{firstRefused, howMany}
+use Rattle.refusal.specs.Below.{firstRefused, howMany}
 use Rattle.faults.specs.Comments.{writtenAt, commentFault, commentFaults}
-use Rattle.faults.proofs.BelowLaws.{below-none, below-more, below-all}
-use Rattle.faults.proofs.CountLaws.{at-most}
+use Rattle.refusal.proofs.BelowLaws.{below-none, below-more, below-all}
+use Rattle.refusal.proofs.CountLaws.{at-most}
 use Rattle.faults.proofs.comments.comment_faults.Statement.{statement}
 use Rattle.faults.proofs.comments.comment_faults.Tie as tie
 

@@ -4,9 +4,9 @@ use Prim.Native.Nat.{_≤_, _-_}
 use native.Mathlib.Omega.{arith}
 use denote.Ref.{now}
 use borrow.Author.Needs.{needs}
-use Rattle.faults.specs.Below.{any}
+use Rattle.refusal.specs.Below.{any}
 use Rattle.faults.specs.Extents.{extentAt, isLong, isOutside, tooLarge, outsidePool}
-use Rattle.faults.proofs.BelowLaws.{below-none, below-more, below-all}
+use Rattle.refusal.proofs.BelowLaws.{below-none, below-more, below-all}
 use Rattle.faults.proofs.RowLaws.{extent-there}
 use Rattle.faults.proofs.extents.extents.Statement.{statement}
 use Rattle.faults.proofs.extents.extents.Tie as tie

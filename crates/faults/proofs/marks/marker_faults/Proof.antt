@@ -2,9 +2,9 @@
 use mathlib.Core.Path.{_≡_}
 use Prim.Native.Nat.{_≤_, _-_}
 use borrow.Author.Needs.{needs}
-use Rattle.faults.specs.Below.{firstRefused}
+use Rattle.refusal.specs.Below.{firstRefused}
 use Rattle.faults.specs.Marks.{markerFault, markerFaults}
-use Rattle.faults.proofs.BelowLaws.{below-none, below-more, below-all}
+use Rattle.refusal.proofs.BelowLaws.{below-none, below-more, below-all}
 use Rattle.faults.proofs.marks.marker_faults.Statement.{statement}
 use Rattle.faults.proofs.marks.marker_faults.Tie as tie
 

@@ -3,9 +3,9 @@ use mathlib.Core.Path.{_≡_, refl}
 use Prim.Native.Nat.{_≤_, _-_}
 use native.Mathlib.Omega.{arith}
 use lib.ListN.{length, getD}
-use Rattle.faults.specs.Below.{any}
+use Rattle.refusal.specs.Below.{any}
 use Rattle.faults.specs.Scalars.{isNoScalar, hasNoScalar}
-use Rattle.faults.proofs.BelowLaws.{below-none, below-more, below-all}
+use Rattle.refusal.proofs.BelowLaws.{below-none, below-more, below-all}
 use Rattle.faults.proofs.scalars.has_no_scalar.Statement.{statement}
 use Rattle.faults.proofs.scalars.has_no_scalar.Tie as tie
 

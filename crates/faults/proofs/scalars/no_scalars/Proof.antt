@@ -4,10 +4,10 @@ use Prim.Native.Nat.{_≤_, _-_}
 use native.Mathlib.Omega.{arith}
 use denote.Ref.{now}
 use Rattle.texts.specs.Extent.{part}
-use Rattle.faults.specs.Below.{any}
+use Rattle.refusal.specs.Below.{any}
 use Rattle.faults.specs.Row.{rowAt, extentOf}
 use Rattle.faults.specs.Scalars.{hasNoScalar, noScalars}
-use Rattle.faults.proofs.BelowLaws.{below-none, below-more, below-all}
+use Rattle.refusal.proofs.BelowLaws.{below-none, below-more, below-all}
 use Rattle.faults.proofs.RowLaws.{extent-there}
 use Rattle.faults.proofs.scalars.no_scalars.Statement.{statement}
 use Rattle.faults.proofs.scalars.no_scalars.Tie as tie

@@ -5,9 +5,9 @@ use Prim.Native.Nat.{_≤_, _-_}
 use native.Mathlib.Omega.{arith}
 use lib.ListN.{length, getD}
 use Rattle.texts.specs.Text.{passes}
-use Rattle.faults.specs.Below.{any}
+use Rattle.refusal.specs.Below.{any}
 use Rattle.faults.specs.TextBytes.{hasNoText}
-use Rattle.faults.proofs.BelowLaws.{below-none, below-more, below-all}
+use Rattle.refusal.proofs.BelowLaws.{below-none, below-more, below-all}
 use Rattle.faults.proofs.text_bytes.has_no_text.Statement.{statement}
 use Rattle.faults.proofs.text_bytes.has_no_text.Tie as tie
 

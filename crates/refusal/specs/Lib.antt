@@ -1,0 +1,4 @@
+pub mod Verdict
+pub mod Below
+pub mod Orders
+pub mod ChannelNumbers
