@@ -1,0 +1,87 @@
+-- Verdicts on whole inputs, by computation over the definitions. Assumes nothing.
+use mathlib.Core.Path.{_≡_, refl}
+use mathlib.Core.Bool.{true, false}
+use mathlib.Core.List.{List, [], _∷_}
+use Prim.Native.Nat.{ℕ}
+use Rattle.chunk.specs.Name.{propertyOrder, infoOrder, localOrder}
+use Rattle.prop.specs.declared.compression.Sound.{Sound}
+use Rattle.prop.specs.declared.compression.Sound.the-variants.{Dsd, Dst}
+use Rattle.prop.specs.declared.layout.Layout.the-variants.{Stereo, Unspecified}
+use Rattle.prop.specs.declared.start.Start.{Start}
+use Rattle.prop.specs.declared.start.Start.the-variants.{Absent, Given}
+use Rattle.prop.specs.Layout.{channelCount}
+use Rattle.prop.specs.Start.{isGiven, startFrame}
+use Rattle.refusal.specs.Below.{below}
+use Rattle.refusal.specs.Orders.{times, eachOnce}
+use Rattle.refusal.specs.ChannelNumbers.{numberFaults}
+use Rattle.refusal.specs.declared.verdict.Verdict.the-variants.{Accepted, Refused}
+use Rattle.faults.specs.Lengths.{lengthsWrong}
+use Rattle.checks.specs.declared.area.Area.{Area}
+use Rattle.texts.specs.Extent.{part}
+use Rattle.texts.specs.Text.{printable}
+use Rattle.faults.specs.Extents.{tooLarge, outsidePool}
+use Rattle.faults.specs.Scalars.{hasNoScalar, noScalars}
+use Rattle.faults.specs.Caller.{callerFaults}
+use Rattle.faults.specs.Comments.{commentFaults}
+use Rattle.checks.specs.Options.{defaults, effective}
+use Rattle.checks.specs.Limits.{anyTooLarge, anyOutside, anyNoScalar, limitFaults}
+use Rattle.checks.specs.Master.{sourceFault, editedMasterFault, trackFaults}
+use Rattle.checks.specs.Info.{infoFaults}
+use Rattle.checks.specs.Local.{lacksAny, localFaults}
+use Rattle.checks.specs.Inputs.{Inputs, givenFaults, chunkFaults, verdict}
+use Rattle.checks.specs.Area.{areaFault, lengthsFault, rangeFault, areaFaults}
+use Rattle.checks.specs.Property.{numbersFault, startFault, propertyFaults}
+
+-- one position, stereo
+abbrev stereo : Sound → Area
+stereo sound = record { sound = sound; playtime = 1; channels = 2; layout = Stereo; first = 0; end = 1 }
+
+start-passes : startFault (stereo Dsd) (Given 6_479_998) ≡ Accepted
+unfolding startFault isGiven startFrame
+start-passes = refl
+
+start-is-29 : startFault (stereo Dsd) (Given 6_479_999) ≡ Refused 29 0
+unfolding startFault isGiven startFrame
+start-is-29 = refl
+
+length-passes : areaFaults (stereo Dst) (65_536 ∷ []) ≡ Accepted
+unfolding areaFaults areaFault lengthsFault rangeFault lengthsWrong below channelCount
+length-passes = refl
+
+length-0-is-10 : areaFaults (stereo Dst) (0 ∷ []) ≡ Refused 10 0
+unfolding areaFaults areaFault lengthsFault rangeFault lengthsWrong below channelCount
+length-0-is-10 = refl
+
+length-65537-is-10 : areaFaults (stereo Dst) (65_537 ∷ []) ≡ Refused 10 0
+unfolding areaFaults areaFault lengthsFault rangeFault lengthsWrong below channelCount
+length-65537-is-10 = refl
+
+-- 5, 5, 1000: the first at fault repeats
+repeat-is-27 :
+    numbersFault (record { sound = Dsd; playtime = 1; channels = 3; layout = Unspecified; first = 0; end = 1 })
+    (record { given = true; count = 3; numbers = 5 ∷ 5 ∷ 1000 ∷ 0 ∷ 0 ∷ 0 ∷ [] })
+    ≡ Refused 27 0
+unfolding numbersFault numberFaults times below
+repeat-is-27 = refl
+
+-- the plain build: stereo DSD, one position, the defaults; nothing is lent
+abbrev plain : Inputs
+plain = record {
+  area = stereo Dsd;
+  options = defaults;
+  propertyOrder = propertyOrder;
+  infoOrder = infoOrder;
+  localOrder = localOrder;
+  localCount = 5;
+  pool = [];
+  raw = [];
+  tracks = [];
+  markers = [];
+  comments = [];
+  callers = [];
+  lengths = [];
+}
+
+plain-accepted : verdict plain ≡ Accepted
+unfolding verdict givenFaults limitFaults anyTooLarge anyOutside anyNoScalar tooLarge outsidePool noScalars hasNoScalar part defaults callerFaults areaFaults areaFault lengthsFault lengthsWrong rangeFault below channelCount trackFaults sourceFault editedMasterFault effective propertyFaults numbersFault startFault isGiven startFrame printable times eachOnce chunkFaults infoFaults commentFaults localFaults lacksAny
+plain-accepted = refl
