@@ -1,3 +1,4 @@
 pub mod WrittenLaws
 pub mod AcceptedLaws
 pub mod VerdictExamples
+pub mod DiinBelowLaws

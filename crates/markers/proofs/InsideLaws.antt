@@ -7,6 +7,7 @@ use native.Mathlib.Nat.{le-refl}
 use native.Mathlib.Omega.{arith}
 use lib.Dec.{eqb, ltb}
 use borrow.Author.Tests.{ltb-true}
+use Rattle.markers.proofs.AllLaws.{All, append-all, if-all, either-all}
 use Rattle.markers.specs.Track.{clip, hasFrames, kept, clipped, some}
 use Rattle.markers.specs.Program.{trackStart, trackStop, stopUnless, trackMarkers, program, hasProgram, sourceSpan, sourceMarkers, fromToc}
 use Rattle.markers.specs.declared.marker.Marker.{Marker}
@@ -14,13 +15,17 @@ use Rattle.markers.specs.declared.program.ProgramOptions.{ProgramOptions
 use Rattle.markers.specs.declared.track.Span.{Span}
 
 -- markers, and spans, from a first frame to an end
+abbrev MarkerInside : ℕ → ℕ → Marker → Type 0
+MarkerInside first end m = (first ≤ m .frame) × (m .frame ≤ end)
+
+abbrev SpanInside : ℕ → ℕ → Span → Type 0
+SpanInside first end s = (first ≤ s .start) × (s .start ≤ end) × (first ≤ s .end) × (s .end ≤ end)
+
 abbrev pub Inside : ℕ → ℕ → List Marker → Type 0
-Inside first end [] = Unit {0}
-Inside first end (m ∷ ms) = (first ≤ m .frame) × (m .frame ≤ end) × Inside first end ms
+Inside first end ms = All (MarkerInside first end) ms
 
 abbrev SpansInside : ℕ → ℕ → List Span → Type 0
-SpansInside first end [] = Unit {0}
-SpansInside first end (s ∷ ss) = (first ≤ s .start) × (s .start ≤ end) × (first ≤ s .end) × (s .end ≤ end) × SpansInside first end ss
+SpansInside first end ss = All (SpanInside first end) ss
 
 module _ (first end : ℕ) where
   clipped-inside : (ss : List Span) → SpansInside first end (clipped first end ss)
@@ -30,39 +35,28 @@ module _ (first end : ℕ) where
     where
       go : (b : Bool) → ltb (clip first end s .start) (clip first end s .end) ≡ b → (rest : List Span) → SpansInside first end rest
           → SpansInside first end (cond b (clip first end s ∷ []) [] ++ rest)
-      go true h rest more = let l = ltb-true (clip first end s .start) (clip first end s .end) h in (omega arith, omega (arith, l), omega (arith, l), omega arith, more)
+      go true h rest more = let l = ltb-true (clip first end s .start) (clip first end s .end) h in ((omega arith, omega (arith, l), omega (arith, l), omega arith), more)
       go false h rest more = more
-
-  append-inside : (ms ns : List Marker) → Inside first end ms → Inside first end ns → Inside first end (ms ++ ns)
-  append-inside [] ns i j = j
-  append-inside (m ∷ ms) ns i j = (i .0, i .1, append-inside ms ns (i .2) j)
 
   stop-inside : (s : Span) (ss : List Span) → first ≤ s .end → s .end ≤ end → Inside first end (stopUnless s ss)
   unfolding stopUnless trackStop
-  stop-inside s [] low high = (low, high, tt)
+  stop-inside s [] low high = ((low, high), tt)
   stop-inside s (next ∷ ss) low high = go (eqb (next .start) (s .end))
     where
       go : (b : Bool) → Inside first end (cond b [] (trackStop s ∷ []))
       go true = tt
-      go false = (low, high, tt)
+      go false = ((low, high), tt)
 
   tracks-inside : (titles : Bool) (ss : List Span) → SpansInside first end ss → Inside first end (trackMarkers titles ss)
   unfolding trackMarkers trackStart
   tracks-inside titles [] i = tt
   tracks-inside titles (s ∷ ss) i =
-      (i .0, i .1, append-inside (stopUnless s ss) (trackMarkers titles ss) (stop-inside s ss (i .2) (i .3)) (tracks-inside titles ss (i .4)))
+      let here = i .0 in
+      ((here .0, here .1), append-all (MarkerInside first end) (stopUnless s ss) (trackMarkers titles ss) (stop-inside s ss (here .2) (here .3)) (tracks-inside titles ss (i .1)))
 
   program-inside : first ≤ end → (titles : Bool) (ss : List Span) → SpansInside first end ss → Inside first end (program first titles ss)
   unfolding program
-  program-inside range titles ss i = (le-refl first, range, tracks-inside titles ss i)
-
-  maybe-inside : (b : Bool) (ms : List Marker) → Inside first end ms → Inside first end (cond b ms [])
-  maybe-inside true ms i = i
-  maybe-inside false ms i = tt
-
-  either-inside : (b : Bool) (ms ns : List Marker) → Inside first end ms → Inside first end ns → Inside first end (cond b ms ns)
-  either-inside true ms ns i j = i
-  either-inside false ms ns i j = j
+  program-inside range titles ss i = ((le-refl first, range), tracks-inside titles ss i)
 
 pub toc-inside : (p : ProgramOptions) (ss : List Span) → p .first ≤ p .end → Inside (p .first) (p .end) (fromToc p ss)
 unfolding fromToc sourceMarkers
@@ -70,6 +64,6 @@ toc-inside p ss range =
     let first = p .first in
     let end = p .end in
     let left = clipped first end (sourceSpan p ss) in
-    either-inside first end (eqb (p .«source_track») 0) _ _
-    (maybe-inside first end (hasProgram p ss) _ (program-inside first end range (p .titles) _ (clipped-inside first end ss)))
-    (maybe-inside first end (p .«source_track_markers» && some left) _ (program-inside first end range (p .titles) left (clipped-inside first end (sourceSpan p ss))))
+    either-all (MarkerInside first end) (eqb (p .«source_track») 0) _ _
+    (if-all (MarkerInside first end) (hasProgram p ss) _ (program-inside first end range (p .titles) _ (clipped-inside first end ss)))
+    (if-all (MarkerInside first end) (p .«source_track_markers» && some left) _ (program-inside first end range (p .titles) left (clipped-inside first end (sourceSpan p ss))))

@@ -7,4 +7,7 @@ pub mod MarkerLaws
 pub mod DiinLaws
 pub mod ReadLaws
 pub mod ProgramExamples
+pub mod AllLaws
 pub mod InsideLaws
+pub mod SizeLaws
+pub mod DiinSizeLaws

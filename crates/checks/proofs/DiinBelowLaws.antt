@@ -1,0 +1,89 @@
+-- An accepted build's DIIN is far below what a size can tell. Assumes nothing.
+use mathlib.Core.Path.{_≡_, refl}
+use mathlib.Core.Bool.{Bool, true, false, cond, not, _&&_, _||_, and-true}
+use mathlib.Core.List.{List}
+use Prim.Native.Nat.{ℕ, _-_, _/_, _^_, _≤_, _<_}
+use native.Mathlib.Omega.{arith}
+use lib.Dec.{eqb}
+use lib.ListN.{length, length-map}
+use borrow.Author.Tests.{lt-ltb}
+use Rattle.chunk.specs.Tree.{bytes}
+use Rattle.texts.specs.Extent.{rows}
+use Rattle.texts.specs.declared.diin_text.Text.{Text}
+use Rattle.texts.specs.declared.diin_text.Text.the-variants.{Absent, Given}
+use Rattle.texts.proofs.ExtentLaws.{length-rows}
+use Rattle.markers.specs.Track.{spanOf, spans}
+use Rattle.markers.specs.Program.{fromToc}
+use Rattle.markers.specs.Custom.{customOf, customs}
+use Rattle.markers.specs.Diin.{markersOf, infoChunks, hasDiin}
+use Rattle.markers.specs.declared.diin.Info.{Info}
+use Rattle.markers.proofs.RowLaws.{length-mapped}
+use Rattle.markers.proofs.AllLaws.{rows-all}
+use Rattle.markers.proofs.SizeLaws.{ShortText, ShortTexts, ShortTitles, toc-short, toc-few}
+use Rattle.markers.proofs.DiinSizeLaws.{ShortGiven, Limited, diin-room}
+use Rattle.refusal.specs.declared.verdict.Verdict.the-variants.{Accepted}
+use Rattle.faults.specs.declared.row.Row.the-variants as row
+use Rattle.faults.proofs.RowFaultLaws.{RowsFit}
+use Rattle.checks.specs.Options.{extentOf, effective, infoOf}
+use Rattle.checks.specs.Limits.{longestText}
+use Rattle.checks.specs.Inputs.{Inputs, verdict}
+use Rattle.checks.proofs.AcceptedLaws.{tags-fit, emid-fits, tracks-fit, markers-fit}
+
+given-short : (t : Text) → extentOf t .length ≤ longestText → ShortGiven longestText t
+given-short Absent h = tt
+given-short (Given e) h = h
+
+-- the titles of rows of tracks, and the texts of rows of markers
+titles-short : (tracks : List ℕ) {most pool : ℕ} → RowsFit row.Track tracks most longestText pool → ShortTitles longestText (spans tracks)
+unfolding spans rows spanOf
+titles-short tracks fit = rows-all (λ s. s .title .length ≤ longestText) spanOf 4 (length tracks / 4) tracks (fit .short)
+
+customs-short : (markers : List ℕ) {most pool : ℕ} → RowsFit row.Marker markers most longestText pool → ShortTexts longestText (customs markers)
+unfolding customs rows customOf
+customs-short markers fit = rows-all (λ m. ShortText longestText (m .text)) customOf 4 (length markers / 4) markers (fit .short)
+
+module _ (x : Inputs) (ok : verdict x ≡ Accepted) where
+  abbrev info : Info
+  info = infoOf (x .area) (x .options) (effective (x .options))
+
+  -- the markers, given or made from tracks
+  texts : ShortTexts longestText (markersOf (x .tracks) (x .markers) info)
+  unfolding markersOf
+  texts = go (x .options .«custom_markers») refl
+    where
+      go : (b : Bool) → x .options .«custom_markers» ≡ b → ShortTexts longestText (cond b (customs (x .markers)) (fromToc (info .program) (spans (x .tracks))))
+      go true on = customs-short (x .markers) (markers-fit x ok on)
+      go false off = toc-short longestText (info .program) (spans (x .tracks)) (titles-short (x .tracks) (tracks-fit x ok))
+
+  few : length (markersOf (x .tracks) (x .markers) info) ≤ 65_535
+  unfolding markersOf customs spans
+  few = go (x .options .«custom_markers») refl
+    where
+      go : (b : Bool) → x .options .«custom_markers» ≡ b → length (cond b (customs (x .markers)) (fromToc (info .program) (spans (x .tracks)))) ≤ 65_535
+      go true on = rw (length-map, length-rows) (markers-fit x ok on .few)
+      go false off =
+          let made : length (fromToc (info .program) (spans (x .tracks))) ≤ 65_535 =
+                omega (arith, toc-few (info .program) (spans (x .tracks)), length-mapped spanOf (x .tracks), tracks-fit x ok .few) in
+          made
+
+  limited : Limited longestText 65_535 (x .tracks) (x .markers) info
+  limited = record {
+    id = given-short (info .emid) (emid-fits x ok .short 0 (omega arith));
+    artists = (given-short (info .track .artist) (tags-fit x ok .short 2 (omega arith)), given-short (info .album .artist) (tags-fit x ok .short 0 (omega arith)));
+    titles = (given-short (info .track .title) (tags-fit x ok .short 3 (omega arith)), given-short (info .album .title) (tags-fit x ok .short 1 (omega arith)));
+    texts = texts;
+    few = few;
+  }
+
+  -- of an order of four names
+  pub diin-below : length (x .infoOrder) ≤ 4 → length (bytes (infoChunks (x .pool) (x .raw) (x .tracks) (x .markers) info (x .infoOrder))) < 2 ^ 64 - 1
+  diin-below four =
+      omega
+      (arith, diin-room longestText 65_535 (x .pool) (x .raw) (x .tracks) (x .markers) info limited (x .infoOrder), four)
+
+  -- so whether there is a DIIN is 01's rule alone
+  pub diin-rule : length (x .infoOrder) ≤ 4
+      → hasDiin (x .pool) (x .raw) (x .tracks) (x .markers) info (x .infoOrder)
+      ≡ (info .on && (info .«empty_info» || not (eqb (length (bytes (infoChunks (x .pool) (x .raw) (x .tracks) (x .markers) info (x .infoOrder)))) 0)))
+  unfolding hasDiin
+  diin-rule four = rw (lt-ltb _ _ (diin-below four), and-true)
