@@ -63,7 +63,7 @@ module _ (x : Inputs) (ok : verdict x ≡ Accepted) where
       go true on = rw (length-map, length-rows) (markers-fit x ok on .few)
       go false off =
           let made : length (fromToc (info .program) (spans (x .tracks))) ≤ 65_535 =
-                omega (arith, toc-few (info .program) (spans (x .tracks)), length-mapped spanOf (x .tracks), tracks-fit x ok .few) in
+          omega (arith, toc-few (info .program) (spans (x .tracks)), length-mapped spanOf (x .tracks), tracks-fit x ok .few) in
           made
 
   limited : Limited longestText 65_535 (x .tracks) (x .markers) info
