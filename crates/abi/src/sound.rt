@@ -6,7 +6,7 @@ ghost use Prim.Native.Nat.{_*_};
 ghost use lib.Dec.{eqb};
 ghost use lib.ListN.{length, replicate};
 ghost use Rattle.chunk.specs.Append.{Appended, moved};
-ghost use Rattle.dst.specs.Crc.{crcOf};
+ghost use Rattle.checksum.specs.Crc.{crcOf};
 ghost use Rattle.dst.specs.Frame.{frameBytes, plainBytes, dsdSound};
 ghost use Rattle.dst.specs.Unit.{sound, sizes};
 ghost use Rattle.dst.specs.Positions.{positions, number, between};
@@ -43,7 +43,7 @@ fn count(fill: Fill) -> usize
 pub extern "C" fn jangqeruz_crc(content: &[u8]) -> u32
     ensures { λ r. ⌜ r ≡ crcOf (now (content .entry)) ⌝ }
 {
-    dst::crc::crc(content)
+    checksum::crc::crc(content)
 }
 
 // The DST chunk's header and FRTE. What is written into `out` is what fits of it; the answer is the length of all of it.

@@ -3,6 +3,7 @@ pub mod AppendLaws
 pub mod NameLaws
 pub mod ChunkLaws
 pub mod ListLaws
+pub mod RowsLaws
 pub mod ValueLaws
 pub mod TreeLaws
 pub mod ReaderLaws

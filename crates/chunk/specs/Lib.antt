@@ -3,6 +3,7 @@ pub mod Append
 pub mod Name
 pub mod Chunk
 pub mod Time
+pub mod Rows
 pub mod Tree
 pub mod Reader
 pub mod Value

@@ -10,7 +10,7 @@ use native.Mathlib.Omega.{arith}
 use lib.Dec.{ltb}
 use lib.ListN.{length, take, drop, replicate, length-append, length-drop, length-replicate, getD-replicate, replicate-append-replicate, take-append-drop}
 use lib.Seq.{length-take-le, take-at, drop-at}
-use Rattle.texts.specs.Extent.{firstRows}
+use Rattle.chunk.specs.Rows.{firstRows}
 use Rattle.dst.specs.declared.place.Place.{Place}
 use Rattle.dst.specs.declared.place.Positions.{Positions}
 use Rattle.dst.specs.Frame.{frameBytes, dsdSound}

@@ -8,7 +8,7 @@ use Rattle.chunk.specs.Append.{moved}
 use Rattle.chunk.specs.Number.{be}
 use Rattle.chunk.specs.Chunk.{pad, chunk, occupied}
 use Rattle.chunk.specs.Tree.{bytes}
-use Rattle.dst.specs.Crc.{bit, bits, byteOf, bytesOf, crcOf}
+use Rattle.checksum.specs.Crc.{bit, bits, byteOf, bytesOf, crcOf}
 use Rattle.dst.specs.Frame.{Frame}
 use Rattle.dst.specs.Unit.{unit, unitBytes, unitSize, sizes}
 use Rattle.dst.specs.Place.{sum}

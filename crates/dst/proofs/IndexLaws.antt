@@ -13,7 +13,7 @@ use Rattle.chunk.specs.Name.{ascii}
 use Rattle.chunk.specs.Chunk.{chunk}
 use Rattle.chunk.specs.Tree.{stop, leaf, bytes}
 use Rattle.chunk.proofs.NumberLaws.{length-be, num-be}
-use Rattle.dst.specs.Crc.{crcOf}
+use Rattle.checksum.specs.Crc.{crcOf}
 use Rattle.dst.specs.Frame.{Frame}
 use Rattle.dst.specs.Unit.{lengths, unit, unitBytes, sound, unitSize, sizes}
 use Rattle.dst.specs.Place.{sum, start}

@@ -1,7 +1,3 @@
-pub mod TableLaws
-pub mod XorLaws
-pub mod CrcTable
-pub mod CrcLaws
 pub mod StartLaws
 pub mod PlaceLaws
 pub mod PositionsLaws

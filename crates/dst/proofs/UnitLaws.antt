@@ -12,7 +12,7 @@ use Rattle.chunk.specs.Tree.{Chunks, bytes}
 use Rattle.chunk.proofs.NumberLaws.{length-be}
 use Rattle.chunk.proofs.ChunkLaws.{length-chunk, pad-even}
 use Rattle.chunk.proofs.TreeLaws.{bytes-join}
-use Rattle.dst.specs.Crc.{crcOf}
+use Rattle.checksum.specs.Crc.{crcOf}
 use Rattle.dst.specs.Frame.{Frame}
 use Rattle.dst.specs.Unit.{lengths, unit, unitBytes, units, sound, unitSize, sizes}
 use Rattle.dst.specs.Place.{sum, start}

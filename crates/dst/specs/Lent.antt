@@ -6,7 +6,7 @@ use mathlib.Core.List.{List, [], _∷_, _++_, map, flatMap}
 use lib.Dec.{eqb}
 use lib.ListN.{length, take, drop, replicate}
 use Rattle.chunk.specs.Name.{same}
-use Rattle.texts.specs.Extent.{firstRows}
+use Rattle.chunk.specs.Rows.{firstRows}
 use Rattle.dst.specs.declared.place.Positions.{Positions}
 use Rattle.dst.specs.declared.window.Window.{Window}
 use Rattle.dst.specs.Frame.{Frame, frameBytes}

@@ -1,4 +1,3 @@
-pub mod Crc
 pub mod Frame
 pub mod Unit
 pub mod Place

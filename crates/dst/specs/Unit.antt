@@ -7,7 +7,7 @@ use Rattle.chunk.specs.Number.{be}
 use Rattle.chunk.specs.Name.{ascii}
 use Rattle.chunk.specs.Chunk.{occupied}
 use Rattle.chunk.specs.Tree.{Chunks, stop, leaf, join, bytes}
-use Rattle.dst.specs.Crc.{crcOf}
+use Rattle.checksum.specs.Crc.{crcOf}
 use Rattle.dst.specs.Frame.{Frame}
 
 -- a frame's unit: its DSTF chunk and, with CRC on, its DSTC chunk

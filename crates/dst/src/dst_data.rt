@@ -5,14 +5,13 @@ ghost use lib.ListN.{length};
 ghost use Rattle.chunk.specs.Name.{ascii};
 ghost use Rattle.chunk.specs.Number.{be};
 ghost use Rattle.chunk.specs.Chunk.{chunk};
-ghost use Rattle.dst.specs.Crc.{crcOf};
+ghost use Rattle.checksum.specs.Crc.{crcOf};
 ghost use Rattle.dst.specs.Frame.{plainBytes};
 ghost use Rattle.dst.specs.Unit.{unitBytes, sound, sizes};
 ghost use Rattle.dst.specs.Place.{sum};
 ghost use Rattle.dst.specs.Positions.{positions, between};
 ghost use Rattle.dst.specs.Window.{Wrote, Filling};
 ghost use Rattle.dst.specs.Lent.{neededAt, isLent, lentFrames, framesWith};
-use crate::crc::crc;
 use crate::frame::plain_bytes;
 use crate::lent::Fill;
 use crate::lent::filled;
@@ -22,6 +21,7 @@ use crate::place::locate;
 use crate::place::touched;
 use crate::window::Window;
 use crate::window::room;
+use checksum::crc::crc;
 use chunk::Cursor;
 
 // A frame's DSTF chunk: header, DST bytes, pad.

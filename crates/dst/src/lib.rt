@@ -1,5 +1,4 @@
-// The sound of a DSDIFF file: DST frames in their chunks, their CRC, places and index, and plain DSD.
-pub mod crc; // crc.rt: the CRC of a frame's plain content
+// The sound of a DSDIFF file: DST frames in their chunks, their places and index, and plain DSD.
 pub mod frame; // frame.rt: the length of a frame's plain content
 pub mod unit; // unit.rt: what a DST frame occupies, with its chunks
 pub mod place; // place.rt: a byte of the sound, by position and place within that position's unit

@@ -14,7 +14,7 @@ const LENGTHS: [u32; 2] = [3, 4];
 fn crc(content: &[u8]) {
     let mut out = [0u8; 4];
     let c = Cursor::new();
-    c.be32(&mut out, dst::crc::crc(content));
+    c.be32(&mut out, checksum::crc::crc(content));
     print::text(b"CRC of ");
     print::number(content.len() as u64);
     print::text(b" bytes:");

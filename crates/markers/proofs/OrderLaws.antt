@@ -6,7 +6,7 @@ use Prim.Native.Nat.{ℕ, _+_, _-_, _/_, _^_, _≤_, _<_, min, max}
 use native.Mathlib.Omega.{arith}
 use lib.ListN.{length, take, getD}
 use lib.Dec.{leb}
-use Rattle.texts.specs.Extent.{rows}
+use Rattle.chunk.specs.Rows.{rows}
 use Rattle.markers.specs.Track.{spanOf, spanAt, spans, clip, hasFrames, kept, clipped, inOrder, allHaveFrames, exact, some}
 use Rattle.markers.specs.Pass.{orderWith}
 use Rattle.markers.specs.declared.track.Span.{Span}

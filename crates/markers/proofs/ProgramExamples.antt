@@ -3,7 +3,7 @@ use mathlib.Core.Path.{_≡_, refl}
 use mathlib.Core.Bool.{true, false}
 use mathlib.Core.List.{List, [], _∷_, flatMap}
 use Prim.Native.Nat.{ℕ}
-use Rattle.texts.specs.Extent.{firstRows, rows}
+use Rattle.chunk.specs.Rows.{firstRows, rows}
 use Rattle.markers.specs.Track.{spanOf, spans, clip, hasFrames, kept, clipped, inOrder, allHaveFrames, exact, some}
 use Rattle.markers.specs.Program.{marker, trackStart, trackStop, stopUnless, trackMarkers, program, isPlayRange, hasProgram, fromToc}
 use Rattle.markers.specs.declared.marker.MarkerKind.the-variants.{TrackStart, TrackStop, ProgramStart}

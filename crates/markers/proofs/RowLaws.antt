@@ -6,8 +6,8 @@ use native.Mathlib.Numerals.{add-one}
 use native.Mathlib.Omega.{arith}
 use lib.ListN.{length, take, drop, length-take, length-drop, length-map, List·getD-map}
 use lib.Seq.{take-suc, take-all}
-use Rattle.texts.specs.Extent.{rows}
-use Rattle.texts.proofs.ExtentLaws.{length-rows, get-rows}
+use Rattle.chunk.specs.Rows.{rows}
+use Rattle.chunk.proofs.RowsLaws.{length-rows, get-rows}
 
 -- row i is whole
 pub row-whole : (words : List ℕ) (i : ℕ) → i < length words / 4 → length (take (i * 4 + 4 - i * 4) (drop (i * 4) words)) ≡ 4

@@ -5,9 +5,9 @@ use Prim.Native.Nat.{ℕ, _+_, _-_, _*_, _/_, _≤_, _<_}
 use native.Mathlib.Omega.{arith}
 use lib.ListN.{length, take, drop, drop-of-length-le, List·getD-map}
 use lib.Seq.{take-all, drop-cons}
+use Rattle.chunk.specs.Rows.{firstRows, rows}
 use Rattle.chunk.proofs.ListLaws.{flatMap-append, flatMap-one}
-use Rattle.texts.specs.Extent.{firstRows, rows}
-use Rattle.texts.proofs.ExtentLaws.{get-rows}
+use Rattle.chunk.proofs.RowsLaws.{get-rows}
 use Rattle.markers.specs.Track.{spanOf, spanAt, spans, clip, kept, clipped}
 use Rattle.markers.specs.declared.track.Span.{Span}
 use Rattle.markers.proofs.RowLaws.{row-whole, row-words, length-mapped, mapped-next, mapped-all}

@@ -4,7 +4,7 @@ use mathlib.Core.Bool.{cond}
 use mathlib.Core.List.{List, map}
 use lib.ListN.{getD}
 use lib.Dec.{eqb}
-use Rattle.texts.specs.Extent.{rows}
+use Rattle.chunk.specs.Rows.{rows}
 use Rattle.markers.specs.declared.marker.MarkerKind.{MarkerKind}
 use Rattle.markers.specs.declared.marker.MarkerKind.the-variants.{TrackStart, TrackStop, ProgramStart, Index}
 use Rattle.markers.specs.declared.marker.MarkerText.the-variants.{Bytes}

@@ -4,7 +4,7 @@ use mathlib.Core.Bool.{Bool, true, false, cond, _&&_}
 use mathlib.Core.List.{List, [], _∷_, map, flatMap}
 use lib.ListN.{length, take, drop, getD}
 use lib.Dec.{leb, ltb}
-use Rattle.texts.specs.Extent.{rows}
+use Rattle.chunk.specs.Rows.{rows}
 use Rattle.markers.specs.declared.track.Span.{Span}
 
 -- the span of a track's row of four words: start, duration, title start, title length

@@ -10,15 +10,15 @@ use borrow.Author.Tests.{lt-leb}
 use lib.ListN.{length, take, drop, getD, length-take, length-drop, length-append}
 use lib.Seq.{take-all, getD-take, getD-drop}
 use Rattle.chunk.specs.Number.{be}
+use Rattle.chunk.specs.Rows.{firstRows, rows}
 use Rattle.chunk.proofs.NumberLaws.{length-be}
 use Rattle.chunk.proofs.ChunkLaws.{length-pad, length-counts}
 use Rattle.chunk.proofs.ListLaws.{flatMap-take, flatMap-bound}
-use Rattle.texts.specs.Extent.{firstRows, rows}
+use Rattle.chunk.proofs.RowsLaws.{length-rows, get-rows}
 use Rattle.texts.specs.Text.{isWritten}
 use Rattle.texts.specs.Comment.{commentOf, commentHead, Written, asWritten, writtenComment, writtenComments, commentBytes, comtData, hasComt}
 use Rattle.texts.specs.declared.text.TextOptions.{TextOptions}
 use Rattle.texts.specs.declared.comt.Comment.{Comment}
-use Rattle.texts.proofs.ExtentLaws.{length-rows, get-rows}
 use Rattle.texts.proofs.TextLaws.{extent-short}
 
 pub length-commentHead : (c : Comment) → length (commentHead c) ≡ 10

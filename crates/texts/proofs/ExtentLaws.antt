@@ -1,13 +1,12 @@
--- The laws of extents and of rows. Assumes nothing.
-use mathlib.Core.Path.{_≡_, refl, sym, ap, _∙_}
-use mathlib.Core.List.{List, []}
-use Prim.Native.Nat.{ℕ, zero, suc, _+_, _-_, _*_, _/_, _≤_, _<_, min}
-use native.Mathlib.Nat.{not-suc-le-zero, zero-mul, suc-mul, add-comm}
+-- The laws of extents. Assumes nothing.
+use mathlib.Core.Path.{_≡_, sym, _∙_}
+use mathlib.Core.List.{List}
+use Prim.Native.Nat.{ℕ, _+_, _-_, _≤_, min}
 use native.Mathlib.Decide.{decLe}
 use native.Mathlib.Omega.{arith}
-use lib.ListN.{length, take, drop, getD, length-take, length-drop, drop-of-length-le}
-use lib.Seq.{take-all, take-nil, drop-drop}
-use Rattle.texts.specs.Extent.{part, firstRows, rows}
+use lib.ListN.{length, take, drop, length-take, length-drop, drop-of-length-le}
+use lib.Seq.{take-all, take-nil}
+use Rattle.texts.specs.Extent.{part}
 use Rattle.texts.specs.declared.extent.Extent.{Extent}
 
 -- what is there of so many elements
@@ -38,24 +37,3 @@ part-places pool e = go (decLe (e .start) (length pool))
         rw (first, count) (take-fit (e .length) (drop (e .start) pool))
     go (no l) =
         rw (drop-of-length-le pool {i = min (e .start) n} (omega arith), drop-of-length-le pool {i = e .start} (omega arith)) (take-nil (min (e .start + e .length) n - min (e .start) n) ∙ sym (take-nil (e .length)))
-
-length-firstRows : (w n : ℕ) (words : List ℕ) → length (firstRows w n words) ≡ n
-unfolding firstRows
-length-firstRows w zero words = refl
-length-firstRows w (suc n) words = ap suc (length-firstRows w n (drop w words))
-
-pub length-rows : (w : ℕ) (words : List ℕ) → length (rows w words) ≡ length words / w
-unfolding rows
-length-rows w words = length-firstRows w (length words / w) words
-
-get-firstRows : (w n i : ℕ) (words : List ℕ) → i < n → getD (firstRows w n words) i [] ≡ take w (drop (i * w) words)
-unfolding firstRows
-get-firstRows w zero i words h = absurd (not-suc-le-zero h)
-get-firstRows w (suc n) zero words h = rw zero-mul
-get-firstRows w (suc n) (suc i) words h =
-    get-firstRows w n i (drop w words) (omega arith) ∙ rw (drop-drop, suc-mul, add-comm w (i * w))
-
--- row i
-pub get-rows : (w i : ℕ) (words : List ℕ) → i < length words / w → getD (rows w words) i [] ≡ take w (drop (i * w) words)
-unfolding rows
-get-rows w i words h = get-firstRows w (length words / w) i words h

@@ -8,7 +8,8 @@ use Rattle.chunk.specs.Number.{be, num}
 use Rattle.chunk.specs.Name.{ascii, same}
 use Rattle.chunk.specs.Chunk.{pad, chunk, counts}
 use Rattle.chunk.specs.Value.{comments, value}
-use Rattle.texts.specs.Extent.{part, firstRows, rows}
+use Rattle.chunk.specs.Rows.{firstRows, rows}
+use Rattle.texts.specs.Extent.{part}
 use Rattle.texts.specs.Text.{printable, latin1, passes, substitute, textByte, textBytes, textPad, isWritten}
 use Rattle.texts.specs.DiinText.{diinTextData, givenText, diinText}
 use Rattle.texts.specs.Comment.{commentOf, referenceOf, commentHead, asWritten, writtenComment, writtenComments, commentBytes, comtData, hasComt, comt}

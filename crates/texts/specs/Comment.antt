@@ -9,7 +9,8 @@ use lib.Dec.{leb, eqb}
 use Rattle.chunk.specs.Number.{be}
 use Rattle.chunk.specs.Name.{ascii}
 use Rattle.chunk.specs.Chunk.{pad, chunk, counts}
-use Rattle.texts.specs.Extent.{part, rows}
+use Rattle.chunk.specs.Rows.{rows}
+use Rattle.texts.specs.Extent.{part}
 use Rattle.texts.specs.Text.{textBytes, isWritten}
 use Rattle.texts.specs.declared.text.TextOptions.{TextOptions}
 use Rattle.texts.specs.declared.comt.Comment.{Comment}

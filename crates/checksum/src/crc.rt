@@ -1,6 +1,6 @@
 // The CRC of a DST frame's content: 32 bits, most significant bit first, polynomial 0x80000011, start 0, nothing inverted.
 ghost use mathlib.Core.Path.{_≡_};
-ghost use Rattle.dst.specs.Crc.{Right, byteOf, crcOf};
+ghost use Rattle.checksum.specs.Crc.{Right, byteOf, crcOf};
 
 // The register after each byte value, from a register of 0.
 const TABLE: [u32; 256] = [

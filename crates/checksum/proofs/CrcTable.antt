@@ -5,8 +5,8 @@ use mathlib.Core.List.{List, [], _∷_}
 use Prim.Native.Nat.{ℕ, _*_, _^_}
 use lib.Dec.{eqb, eqb→eq}
 use lib.ListN.{getD}
-use Rattle.dst.specs.Crc.{bit, bits, Right}
-use Rattle.dst.proofs.TableLaws.{at}
+use Rattle.checksum.specs.Crc.{bit, bits, Right}
+use Rattle.checksum.proofs.TableLaws.{at}
 
 -- the table of `src/`
 abbrev pub table : List ℕ

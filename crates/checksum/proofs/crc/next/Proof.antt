@@ -3,9 +3,9 @@ use Prim.Native.Nat.{_^_, _/_, _<_}
 use native.Mathlib.Omega.{arith}
 use lib.Bits.{bitXor}
 use borrow.Author.Needs.{needs}
-use Rattle.dst.proofs.CrcLaws.{byte-step, index-lt}
-use Rattle.dst.proofs.crc.next.Statement.{statement}
-use Rattle.dst.proofs.crc.next.Tie as tie
+use Rattle.checksum.proofs.CrcLaws.{byte-step, index-lt}
+use Rattle.checksum.proofs.crc.next.Statement.{statement}
+use Rattle.checksum.proofs.crc.next.Tie as tie
 
 small : (c : tie.Start) → bitXor (c .args .r / 2 ^ 24) (c .args .b) < 256
 small c = index-lt (c .args .r) (c .args .b) (c .fits .r .fits) (c .fits .b .fits)

@@ -7,10 +7,10 @@ use native.Mathlib.Omega.{arith}
 use lib.ListN.{length, drop, getD, drop-of-length-le}
 use lib.Seq.{drop-cons}
 use borrow.Author.Needs.{needs}
-use Rattle.dst.specs.Crc.{byteOf, bytesOf, crcOf}
-use Rattle.dst.proofs.CrcTable.{rule}
-use Rattle.dst.proofs.crc.crc.Statement.{statement}
-use Rattle.dst.proofs.crc.crc.Tie as tie
+use Rattle.checksum.specs.Crc.{byteOf, bytesOf, crcOf}
+use Rattle.checksum.proofs.CrcTable.{rule}
+use Rattle.checksum.proofs.crc.crc.Statement.{statement}
+use Rattle.checksum.proofs.crc.crc.Tie as tie
 
 abbrev Inv-loop : tie.InvT-loop
 Inv-loop content table r₀ i₀ r i = (i ≤ length content) × (bytesOf r (drop i content) ≡ crcOf content)

@@ -6,8 +6,8 @@ use native.Mathlib.Nat.{mod-lt, add-zero, mul-one, mul-assoc, pow-suc, mul-comm}
 use native.Mathlib.Omega.{arith}
 use lib.Pow.{split, pow-pos, pow-mono}
 use lib.Bits.{bitXor, xor-shr, xor-mod, xor-lt, xor-block, xor-shifted, xor-zero-r, xor-comm}
-use Rattle.dst.specs.Crc.{poly, bit, bits, byteOf}
-use Rattle.dst.proofs.XorLaws.{xor-swap, xor-double}
+use Rattle.checksum.specs.Crc.{poly, bit, bits, byteOf}
+use Rattle.checksum.proofs.XorLaws.{xor-swap, xor-double}
 
 -- the polynomial, added or not
 top : (x y : ℕ) → x < 2 → y < 2 → bitXor x y * poly ≡ bitXor (x * poly) (y * poly)

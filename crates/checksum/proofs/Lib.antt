@@ -1,0 +1,4 @@
+pub mod TableLaws
+pub mod XorLaws
+pub mod CrcTable
+pub mod CrcLaws

@@ -1,0 +1,2 @@
+// The checksum of DST sound, as a DSTC chunk has it.
+pub mod crc; // crc.rt: the CRC of a frame's plain content
