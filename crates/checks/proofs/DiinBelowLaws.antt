@@ -8,10 +8,10 @@ use lib.Dec.{eqb}
 use lib.ListN.{length, length-map}
 use borrow.Author.Tests.{lt-ltb}
 use Rattle.chunk.specs.Tree.{bytes}
-use Rattle.texts.specs.Extent.{rows}
+use Rattle.chunk.specs.Rows.{rows}
 use Rattle.texts.specs.declared.diin_text.Text.{Text}
 use Rattle.texts.specs.declared.diin_text.Text.the-variants.{Absent, Given}
-use Rattle.texts.proofs.ExtentLaws.{length-rows}
+use Rattle.chunk.proofs.RowsLaws.{length-rows}
 use Rattle.markers.specs.Track.{spanOf, spans}
 use Rattle.markers.specs.Program.{fromToc}
 use Rattle.markers.specs.Custom.{customOf, customs}
