@@ -1,14 +1,13 @@
 -- Verdicts on whole inputs, by computation over the definitions. Assumes nothing.
 use mathlib.Core.Path.{_≡_, refl}
-use mathlib.Core.Bool.{true, false}
-use mathlib.Core.List.{List, [], _∷_}
-use Prim.Native.Nat.{ℕ}
+use mathlib.Core.Bool.{true}
+use mathlib.Core.List.{[], _∷_}
 use Rattle.chunk.specs.Name.{propertyOrder, infoOrder, localOrder}
 use Rattle.prop.specs.declared.compression.Sound.{Sound}
 use Rattle.prop.specs.declared.compression.Sound.the-variants.{Dsd, Dst}
 use Rattle.prop.specs.declared.layout.Layout.the-variants.{Stereo, Unspecified}
 use Rattle.prop.specs.declared.start.Start.{Start}
-use Rattle.prop.specs.declared.start.Start.the-variants.{Absent, Given}
+use Rattle.prop.specs.declared.start.Start.the-variants.{Given}
 use Rattle.prop.specs.Layout.{channelCount}
 use Rattle.prop.specs.Start.{isGiven, startFrame}
 use Rattle.refusal.specs.Below.{below}

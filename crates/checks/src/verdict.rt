@@ -1,6 +1,6 @@
 // The verdict on the inputs of a build: the first refusal of document 01's list.
 ghost use mathlib.Core.Path.{_≡_};
-ghost use Rattle.checks.specs.Inputs.{Inputs, givenFaults, chunkFaults, verdict};
+ghost use Rattle.checks.specs.Inputs.{givenFaults, chunkFaults, verdict};
 use crate::area::Area;
 use crate::options::Options;
 use crate::options::Settings;

@@ -16,9 +16,8 @@ use Rattle.texts.specs.declared.text.TextOptions.{TextOptions}
 use Rattle.texts.specs.declared.comt.Comment.{Comment}
 use Rattle.texts.proofs.CommentLaws.{firstComments, comments-next, comments-all}
 use Rattle.refusal.specs.Below.{below, howMany}
-use Rattle.refusal.specs.Verdict.{refuseIf, orElse}
-use Rattle.faults.specs.Row.{rowAt, countOfRows}
-use Rattle.faults.specs.Comments.{isWrittenComment, dateWrong, referenceWrong, faultOf, writtenAt, commentAt, commentFault, commentFaults}
+use Rattle.faults.specs.Row.{rowAt}
+use Rattle.faults.specs.Comments.{isWrittenComment, dateWrong, referenceWrong, writtenAt, commentAt, commentFault, commentFaults}
 use Rattle.refusal.specs.declared.verdict.Verdict.the-variants.{Accepted}
 use Rattle.faults.specs.declared.row.Row.the-variants as row
 use Rattle.refusal.proofs.VerdictLaws.{after, if-accepted, none-refused}

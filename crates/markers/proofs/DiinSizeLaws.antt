@@ -22,7 +22,6 @@ use Rattle.texts.specs.declared.text.TextOptions.{TextOptions}
 use Rattle.texts.proofs.ExtentLaws.{length-part}
 use Rattle.texts.proofs.TextLaws.{extent-short}
 use Rattle.texts.proofs.DiinTextLaws.{length-diin-text, diin-text-tree}
-use Rattle.markers.specs.Marker.{mark}
 use Rattle.markers.specs.Pick.{ofTrack, firstPresent, pick}
 use Rattle.markers.specs.Diin.{marking, markersOf, chosen, artistOf, titleOf, emid, infoChunk, infoChunks}
 use Rattle.markers.specs.declared.pick.ArtistTitleSource.{ArtistTitleSource}
