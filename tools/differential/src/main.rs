@@ -4,6 +4,7 @@
 #![forbid(unsafe_code)]
 
 mod calls;
+mod checks;
 mod chunks;
 mod markers;
 mod original;
@@ -44,7 +45,12 @@ fn main() -> ExitCode {
         eprintln!("{USAGE}");
         return ExitCode::from(2);
     };
-    let subjects = [subject::run::<text::Text>, subject::run::<markers::Markers>, subject::run::<sound::Sound>];
+    let subjects = [
+        subject::run::<text::Text>,
+        subject::run::<markers::Markers>,
+        subject::run::<sound::Sound>,
+        subject::run::<checks::Checks>,
+    ];
     let mut agreed = true;
     for run in subjects {
         match run(&program, seed, count) {

@@ -34,6 +34,19 @@ impl Answer {
         self.part("header", counted_hex)
     }
 
+    /// The refusal's number and detail; 0 and 0 of an accepted build.
+    pub fn refusal(&self) -> Result<[u32; 2], String> {
+        let line = self.lines.first().map_or("", String::as_str);
+        let mut words = line.split(' ');
+        let mut word = || words.next().unwrap_or_default();
+        let refusal = match word() {
+            "accepted" => Some([0, 0]),
+            "refused" => word().parse().ok().and_then(|number| Some([number, word().parse().ok()?])),
+            _ => None,
+        };
+        refusal.ok_or_else(|| format!("case {} has no answer of this kind: {line:?}", self.name))
+    }
+
     /// The length of the sound.
     pub fn sound(&self) -> Result<u64, String> {
         self.part("sound", |words| words.parse().ok())

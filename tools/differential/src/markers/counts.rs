@@ -25,7 +25,7 @@ struct Spans {
 impl Spans {
     fn of(case: &Case) -> Spans {
         let tracks = case.tracks.iter();
-        let whole: Vec<Span> = tracks.map(|track| (track.start, track.start.saturating_add(track.duration))).collect();
+        let whole: Vec<Span> = tracks.map(|track| (track.start, track.end())).collect();
         let clip = |&(start, end): &Span| (case.info.first.max(start), case.info.end.min(end));
         let clipped: Vec<Span> = whole.iter().map(clip).collect();
         let left = clipped.iter().copied().filter(|(start, end)| start < end).collect();

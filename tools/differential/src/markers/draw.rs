@@ -17,12 +17,12 @@ pub const LAST_FRAME: u32 = 6_479_999;
 pub const LAYOUTS: [(u8, u8); 3] = [(2, 0), (5, 3), (6, 4)];
 
 /// True so many times in a hundred.
-fn percent(random: &mut Random, times: u32) -> bool {
+pub fn percent(random: &mut Random, times: u32) -> bool {
     random.between(1, 100) <= times
 }
 
 /// A number that means the last of so many: mostly its place, at times any above.
-fn last_number(random: &mut Random, last: u8) -> u8 {
+pub fn last_number(random: &mut Random, last: u8) -> u8 {
     if random.one_in(4) {
         random.between(last.into(), 255) as u8
     } else {
@@ -30,7 +30,7 @@ fn last_number(random: &mut Random, last: u8) -> u8 {
     }
 }
 
-fn draw_order<const N: usize>(random: &mut Random) -> [u8; N] {
+pub fn draw_order<const N: usize>(random: &mut Random) -> [u8; N] {
     let mut order = std::array::from_fn(|place| place as u8);
     if percent(random, 80) {
         random.shuffle(&mut order);
@@ -84,7 +84,7 @@ fn draw_layout(random: &mut Random) -> (u8, u8, u8) {
 }
 
 /// The channels' numbers, if they are given: each once, and up to 999. The others are not read.
-fn draw_numbers(random: &mut Random, layout: u8, channels: u8) -> ChannelNumbers {
+pub fn draw_numbers(random: &mut Random, layout: u8, channels: u8) -> ChannelNumbers {
     let unspecified = layout >= UNSPECIFIED;
     let mut numbers = std::array::from_fn(|_| random.between(0, 65_535) as u16);
     if !percent(random, if unspecified { 60 } else { 20 }) {

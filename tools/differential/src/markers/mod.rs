@@ -1,8 +1,10 @@
 //! Markers and properties: the chunks PROP and DIIN.
 
 mod counts;
-mod draw;
-mod simplify;
+pub mod draw;
+pub mod simplify;
+
+use std::iter;
 
 use library::markers::{self as ours, ChannelNumbers, Info, Lent, Marker, Properties, Track, INDEX, PROGRAM_START};
 use library::text::{Extent, D2, REMOVE};
@@ -21,39 +23,45 @@ pub struct Markers;
 /// A case as our functions are given it, and what only the original is told. It reads its texts from the pools.
 #[derive(Clone, PartialEq)]
 pub struct Case {
-    properties: Properties,
-    info: Info,
-    tracks: Vec<TrackOf>,
+    pub properties: Properties,
+    pub info: Info,
+    pub tracks: Vec<TrackOf>,
     /// Read only if the markers are custom.
-    custom: Vec<MarkerOf>,
-    pool: Vec<u32>,
-    raw: Vec<u8>,
+    pub custom: Vec<MarkerOf>,
+    pub pool: Vec<u32>,
+    pub raw: Vec<u8>,
     /// The area's configuration, which with the number of channels gives the layout.
-    config: u8,
+    pub config: u8,
     /// The original is told nothing of artist and title, instead of "off".
-    unset: bool,
+    pub unset: bool,
     /// DIIN comes after the sound.
-    after_sound: bool,
+    pub after_sound: bool,
     /// Decides how long the lent buffers are.
-    buffers: u64,
+    pub buffers: u64,
 }
 
 #[derive(Clone, Copy, PartialEq)]
-struct TrackOf {
-    start: u32,
-    duration: u32,
-    title: Extent,
+pub struct TrackOf {
+    pub start: u32,
+    pub duration: u32,
+    pub title: Extent,
     /// The original is given no title, and we an empty one.
-    untitled: bool,
+    pub untitled: bool,
+}
+
+impl TrackOf {
+    pub fn end(&self) -> u32 {
+        self.start.saturating_add(self.duration)
+    }
 }
 
 #[derive(Clone, Copy, PartialEq)]
-struct MarkerOf {
-    frame: u32,
+pub struct MarkerOf {
+    pub frame: u32,
     /// 16 bits, of which only four values have a name.
-    kind: u32,
-    flags: u32,
-    text: Extent,
+    pub kind: u32,
+    pub flags: u32,
+    pub text: Extent,
 }
 
 const PROPERTY_NAMES: [&str; 5] = ["fs", "chnl", "cmpr", "abss", "lsco"];
@@ -61,11 +69,11 @@ const INFO_NAMES: [&str; 4] = ["emid", "mark", "diar", "diti"];
 const SOURCE_NAMES: [&str; 3] = ["album", "track", "track_then_album"];
 
 /// What a number means: all above the last are as the last.
-fn meant<T: Copy>(number: u8, list: &[T]) -> T {
+pub fn meant<T: Copy>(number: u8, list: &[T]) -> T {
     list[usize::from(number).min(list.len() - 1)]
 }
 
-fn order(numbers: &[u8], names: &[&str]) -> String {
+pub fn order(numbers: &[u8], names: &[&str]) -> String {
     numbers.iter().map(|&number| meant(number, names)).collect::<Vec<_>>().join(",")
 }
 
@@ -93,42 +101,25 @@ impl Case {
         ]
     }
 
-    fn track_rows(&self) -> Vec<Track> {
+    pub fn track_rows(&self) -> Vec<Track> {
         let row = |track: &TrackOf| [track.start, track.duration, track.title.start, track.title.length];
         self.tracks.iter().map(row).collect()
     }
 
-    fn marker_rows(&self) -> Vec<Marker> {
+    pub fn marker_rows(&self) -> Vec<Marker> {
         let row =
             |marker: &MarkerOf| [marker.frame, marker.kind << 16 | marker.flags, marker.text.start, marker.text.length];
         self.custom.iter().map(row).collect()
     }
 
-    /// No DIIN of this case has more bytes.
-    fn most_info(&self) -> usize {
-        let given = |text: ours::Text| if text[0] == 0 { 0 } else { text[2] as usize };
-        let titles = self.tracks.iter().map(|track| track.title.length as usize).sum::<usize>();
-        let texts = self.custom.iter().map(|marker| marker.text.length as usize).sum::<usize>();
-        let tags = self.tags().map(|(_, tag)| given(tag)).iter().sum::<usize>();
-        let marks = 1 + 2 * self.tracks.len() + self.custom.len();
-        100 + given(self.info.emid) + titles + texts + tags + 40 * marks
-    }
-}
-
-impl Subject for Markers {
-    const NAME: &'static str = "markers and properties";
-    type Case = Case;
-    type Counts = Counts;
-
-    fn draw(random: &mut Random) -> Case {
-        draw::draw(random)
-    }
-
-    fn for_original(case: &Case) -> String {
-        let Case { properties, info, .. } = case;
+    /// The case in the original's case language, but for the lengths of DST frames.
+    pub fn lines(&self) -> Vec<String> {
+        let Case { properties, info, .. } = self;
         let bit = u8::from;
         let ChannelNumbers { given, count, numbers } = properties.numbers;
-        let numbers = numbers.iter().take(count as usize).map(u16::to_string).collect::<Vec<_>>().join(",");
+        let numbers = numbers.into_iter().chain(iter::repeat(0)).take(count as usize);
+        let numbers = numbers.map(|number| number.to_string()).collect::<Vec<_>>().join(",");
+        let numbers = if numbers.is_empty() { "-" } else { &numbers };
         let rule = info.conversion.rule;
         let replacement = info.conversion.replacement;
         // D2 does not use the replacement, but one that is no text byte is refused.
@@ -139,26 +130,26 @@ impl Subject for Markers {
             (false, true) => "d2",
             (true, true) => "d1,d2",
         };
-        let artist_title = match (info.artist_title, case.unset) {
+        let artist_title = match (info.artist_title, self.unset) {
             (true, _) => "on",
             (false, false) => "off",
             (false, true) => "unset",
         };
         // The original has an EMID even if it is not written.
-        let emid = if info.emid[0] == 0 { &b"EMID"[..] } else { case.bytes(extent(info.emid)) };
+        let emid = if info.emid[0] == 0 { &b"EMID"[..] } else { self.bytes(extent(info.emid)) };
         let mut lines = vec![
             format!("kind {}", if properties.dst { "dst" } else { "dsd" }),
             format!("channels {}", properties.channels),
-            format!("config {}", case.config),
+            format!("config {}", self.config),
             format!("playtime {}", info.playtime),
             format!("range {} {}", info.first, info.end),
             format!("property_order {}", order(&properties.order, &PROPERTY_NAMES)),
             format!("info_order {}", order(&info.order, &INFO_NAMES)),
             format!(
                 "local_order {}",
-                if case.after_sound { "prop,comt,sound,diin,dsti" } else { "prop,comt,diin,sound,dsti" }
+                if self.after_sound { "prop,comt,sound,diin,dsti" } else { "prop,comt,diin,sound,dsti" }
             ),
-            format!("channel_numbers {}", if given { &numbers } else { "none" }),
+            format!("channel_numbers {}", if given { numbers } else { "none" }),
             format!("lsco {}", bit(properties.loudspeaker_configuration)),
             format!("unspecified_lsco {}", bit(properties.unspecified_loudspeaker_configuration)),
             format!("info {}", bit(info.on)),
@@ -182,39 +173,69 @@ impl Subject for Markers {
         optional("absolute_start", properties.start.given.then_some(properties.start.frame));
         optional("source_track", (info.source_track > 0).then_some(info.source_track.into()));
         optional("replacement", replaces.then_some(replacement.into()));
-        for track in &case.tracks {
-            let title = if track.untitled { "-".into() } else { utf8(case.values(track.title)) };
+        for track in &self.tracks {
+            let title = if track.untitled { "-".into() } else { utf8(self.values(track.title)) };
             lines.push(format!("track {} {} {title}", track.start, track.duration));
         }
         if info.custom_markers {
-            for MarkerOf { frame, kind, flags, text } in case.custom.iter().copied() {
+            for MarkerOf { frame, kind, flags, text } in self.custom.iter().copied() {
                 let kind = if kind <= PROGRAM_START { kind } else { INDEX };
-                lines.push(format!("marker {frame} {kind} {flags} {}", hex(case.bytes(text))));
+                lines.push(format!("marker {frame} {kind} {flags} {}", hex(self.bytes(text))));
             }
         }
-        for (name, tag) in case.tags().into_iter().filter(|(_, tag)| tag[0] != 0) {
-            lines.push(format!("tag {name} {}", utf8(case.values(extent(tag)))));
+        for (name, tag) in self.tags().into_iter().filter(|(_, tag)| tag[0] != 0) {
+            lines.push(format!("tag {name} {}", utf8(self.values(extent(tag)))));
         }
-        if properties.dst {
-            lines.push(format!("lengths 3x{}", info.end - info.first));
+        lines
+    }
+
+    /// The case as our functions are given it, for a reader.
+    pub fn told(&self) -> String {
+        let rule = meant(self.info.conversion.rule, &RULES);
+        let pool = self.pool.iter().map(|value| format!("{value:#x}")).collect::<Vec<_>>();
+        let mut lines = vec![
+            format!("{:?}", self.properties),
+            format!("{:?}", self.info),
+            format!("the rule: {rule}"),
+            format!("pool [{}]", pool.join(", ")),
+            format!("raw {}", hex(&self.raw)),
+        ];
+        lines.extend(self.track_rows().iter().map(|row| format!("track {row:?}")));
+        lines.extend(self.marker_rows().iter().map(|row| format!("marker {row:?}")));
+        lines.join("\n")
+    }
+
+    /// No DIIN of this case has more bytes.
+    fn most_info(&self) -> usize {
+        let given = |text: ours::Text| if text[0] == 0 { 0 } else { text[2] as usize };
+        let titles = self.tracks.iter().map(|track| track.title.length as usize).sum::<usize>();
+        let texts = self.custom.iter().map(|marker| marker.text.length as usize).sum::<usize>();
+        let tags = self.tags().map(|(_, tag)| given(tag)).iter().sum::<usize>();
+        let marks = 1 + 2 * self.tracks.len() + self.custom.len();
+        100 + given(self.info.emid) + titles + texts + tags + 40 * marks
+    }
+}
+
+impl Subject for Markers {
+    const NAME: &'static str = "markers and properties";
+    type Case = Case;
+    type Counts = Counts;
+
+    fn draw(random: &mut Random) -> Case {
+        draw::draw(random)
+    }
+
+    fn for_original(case: &Case) -> String {
+        let mut lines = case.lines();
+        if case.properties.dst {
+            lines.push(format!("lengths 3x{}", case.info.end - case.info.first));
         }
         lines.push(String::new());
         lines.join("\n")
     }
 
     fn for_us(case: &Case) -> String {
-        let rule = meant(case.info.conversion.rule, &RULES);
-        let pool = case.pool.iter().map(|value| format!("{value:#x}")).collect::<Vec<_>>();
-        let mut lines = vec![
-            format!("{:?}", case.properties),
-            format!("{:?}", case.info),
-            format!("the rule: {rule}"),
-            format!("pool [{}]", pool.join(", ")),
-            format!("raw {}", hex(&case.raw)),
-        ];
-        lines.extend(case.track_rows().iter().map(|row| format!("track {row:?}")));
-        lines.extend(case.marker_rows().iter().map(|row| format!("marker {row:?}")));
-        lines.join("\n")
+        case.told()
     }
 
     fn compare(case: &Case, answer: &Answer, counts: &mut Counts) -> Result<Vec<Disagreement>, String> {

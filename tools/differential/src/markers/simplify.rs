@@ -15,9 +15,12 @@ const ABSENT: ours::Text = [0; 3];
 /// The value that all others become if the case still fails.
 const PLAIN: u8 = 0x41;
 
+/// Keeps to cases that the original accepts.
 pub fn simplify(case: &mut Case, fails: Fails<'_, Case>) -> Result<(), Halt> {
-    let fails: Fails<'_, Case> = &mut |case| Ok(is_accepted(case) && fails(case)?);
+    simplify_any(case, &mut |case| Ok(is_accepted(case) && fails(case)?))
+}
 
+pub fn simplify_any(case: &mut Case, fails: Fails<'_, Case>) -> Result<(), Halt> {
     keep(case, fails, |case| case.info.source_track = 0)?;
     simplify_list(case, |case| case.tracks.len(), without_tracks, fails)?;
     let without_markers = |case: &Case, gone: Range<usize>| {
@@ -135,9 +138,10 @@ fn is_accepted(case: &Case) -> bool {
     let range = info.first < info.end && info.end <= info.playtime;
     let told = |frame: u32| range && frame <= LAST_FRAME - (info.end - info.first);
     let source = info.source_track == 0
-        || case.tracks.get(usize::from(info.source_track) - 1).is_some_and(|track| {
-            info.first.max(track.start) < info.end.min(track.start.saturating_add(track.duration))
-        });
+        || case
+            .tracks
+            .get(usize::from(info.source_track) - 1)
+            .is_some_and(|track| info.first.max(track.start) < info.end.min(track.end()));
     let passes = |&byte: &u8| (0x20..=0x7E).contains(&byte) || d2 && byte >= 0xA0;
     let markers = !info.custom_markers
         || case.custom.iter().all(|marker| {
