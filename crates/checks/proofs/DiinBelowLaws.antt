@@ -11,13 +11,12 @@ use Rattle.chunk.specs.Tree.{bytes}
 use Rattle.chunk.specs.Rows.{rows}
 use Rattle.texts.specs.declared.diin_text.Text.{Text}
 use Rattle.texts.specs.declared.diin_text.Text.the-variants.{Absent, Given}
-use Rattle.chunk.proofs.RowsLaws.{length-rows}
+use Rattle.chunk.proofs.RowsLaws.{length-rows, length-mapped}
 use Rattle.markers.specs.Track.{spanOf, spans}
 use Rattle.markers.specs.Program.{fromToc}
 use Rattle.markers.specs.Custom.{customOf, customs}
 use Rattle.markers.specs.Diin.{markersOf, infoChunks, hasDiin}
 use Rattle.markers.specs.declared.diin.Info.{Info}
-use Rattle.markers.proofs.RowLaws.{length-mapped}
 use Rattle.markers.proofs.AllLaws.{rows-all}
 use Rattle.markers.proofs.SizeLaws.{ShortText, ShortTexts, ShortTitles, toc-short, toc-few}
 use Rattle.markers.proofs.DiinSizeLaws.{ShortGiven, Limited, diin-room}
@@ -63,7 +62,7 @@ module _ (x : Inputs) (ok : verdict x ≡ Accepted) where
       go true on = rw (length-map, length-rows) (markers-fit x ok on .few)
       go false off =
           let made : length (fromToc (info .program) (spans (x .tracks))) ≤ 65_535 =
-          omega (arith, toc-few (info .program) (spans (x .tracks)), length-mapped spanOf (x .tracks), tracks-fit x ok .few) in
+          omega (arith, toc-few (info .program) (spans (x .tracks)), length-mapped spanOf 4 (x .tracks), tracks-fit x ok .few) in
           made
 
   limited : Limited longestText 65_535 (x .tracks) (x .markers) info
@@ -76,10 +75,13 @@ module _ (x : Inputs) (ok : verdict x ≡ Accepted) where
   }
 
   -- of an order of four names
-  pub diin-below : length (x .infoOrder) ≤ 4 → length (bytes (infoChunks (x .pool) (x .raw) (x .tracks) (x .markers) info (x .infoOrder))) < 2 ^ 64 - 1
-  diin-below four =
+  pub diin-low : length (x .infoOrder) ≤ 4 → length (bytes (infoChunks (x .pool) (x .raw) (x .tracks) (x .markers) info (x .infoOrder))) ≤ 2 ^ 35
+  diin-low four =
       omega
       (arith, diin-room longestText 65_535 (x .pool) (x .raw) (x .tracks) (x .markers) info limited (x .infoOrder), four)
+
+  pub diin-below : length (x .infoOrder) ≤ 4 → length (bytes (infoChunks (x .pool) (x .raw) (x .tracks) (x .markers) info (x .infoOrder))) < 2 ^ 64 - 1
+  diin-below four = omega (arith, diin-low four)
 
   -- so whether there is a DIIN is 01's rule alone
   pub diin-rule : length (x .infoOrder) ≤ 4

@@ -2,26 +2,28 @@
 use mathlib.Core.Path.{_≡_, refl, sym, ap, _∙_}
 use mathlib.Core.Bool.{Bool, cond}
 use mathlib.Core.List.{List, [], _∷_, _++_, flatMap, append-assoc, append-nil}
-use Prim.Native.Nat.{ℕ, zero, suc, _+_, _-_, _*_, _^_, _<_}
-use native.Mathlib.Nat.{not-suc-le-zero, le-of-suc-le-suc}
+use Prim.Native.Nat.{ℕ, zero, suc, _+_, _-_, _*_, _%_, _^_, _≤_, _<_}
+use native.Mathlib.Nat.{not-suc-le-zero, le-of-suc-le-suc, zero-add}
 use native.Mathlib.Omega.{arith}
 use lib.ListN.{length, take, drop, getD, length-append, length-map}
 use lib.Seq.{take-at, drop-at, drop-nil, drop-drop, drop-cons}
-use Rattle.chunk.specs.Append.{moved}
+use Rattle.chunk.specs.Append.{Appended, moved}
 use Rattle.chunk.specs.Number.{be, num}
 use Rattle.chunk.specs.Name.{ascii}
 use Rattle.chunk.specs.Chunk.{chunk}
 use Rattle.chunk.specs.Tree.{stop, leaf, bytes}
 use Rattle.chunk.proofs.NumberLaws.{length-be, num-be}
+use Rattle.chunk.proofs.AppendLaws.{_then_, kept, overlay-out}
+use Rattle.chunk.proofs.TreeLaws.{bytes-leaf}
 use Rattle.checksum.specs.Crc.{crcOf}
 use Rattle.dst.specs.Frame.{Frame}
 use Rattle.dst.specs.Unit.{lengths, unit, unitBytes, sound, unitSize, sizes}
 use Rattle.dst.specs.Place.{sum, start}
 use Rattle.dst.specs.Head.{head}
-use Rattle.dst.specs.Index.{shiftOf, entry, index, Stands}
+use Rattle.dst.specs.Index.{shiftOf, entry, index, dsti, Stands}
 use Rattle.dst.specs.declared.index.DstIndexOffset.{DstIndexOffset}
 use Rattle.dst.proofs.SaturateLaws.{moved-moved, moved-zero, moved-lt, moved-fits}
-use Rattle.dst.proofs.UnitLaws.{length-unit, length-frte}
+use Rattle.dst.proofs.UnitLaws.{length-unit, length-frte, chunk-even}
 
 -- one entry more
 pub index-more : (crc : Bool) (at : ℕ) (ls : List ℕ) (i : ℕ) → at < 2 ^ 64 → i < length ls
@@ -41,6 +43,30 @@ pub length-index : (crc : Bool) (at : ℕ) (ls : List ℕ) → length (index crc
 unfolding index
 length-index crc at [] = refl
 length-index crc at (l ∷ ls) = rw (length-append, length-entry at l, length-index crc (moved at (unitSize crc l)) ls) (omega arith)
+
+-- DSTI with 2 ^ 60 entries at the most is a chunk of the file's tree
+pub dsti-bytes : (crc : Bool) (at : ℕ) (ls : List ℕ) → length ls ≤ 2 ^ 60 → dsti crc at ls ≡ bytes (leaf (ascii "DSTI") (index crc at ls) stop)
+unfolding dsti
+dsti-bytes crc at ls few =
+    let size = length-index crc at ls in
+    let even : length (index crc at ls) % 2 ≡ 0 = omega (arith, size) in
+    rw (bytes-leaf, chunk-even (ascii "DSTI") (index crc at ls) even, size, moved-fits 0 (12 * length ls) (omega arith), zero-add)
+
+-- DSTI has 12 bytes an entry and 12 more, whatever its offsets
+pub length-dsti : (crc : Bool) (at : ℕ) (ls : List ℕ) → length (dsti crc at ls) ≡ 12 + 12 * length ls
+unfolding dsti
+length-dsti crc at ls = simp (length-append, length-be, length-index) refl
+
+-- entries that come after the buffer's end are only measured
+pub index-past : (crc : Bool) (at : ℕ) (ls : List ℕ) {ws hs xs : List ℕ} {d a b n : ℕ} → Appended ws d hs xs a → length xs ≤ a → n ≡ moved 0 (12 * length ls) → b ≡ moved a n
+    → Appended ws d (hs ++ index crc at ls) xs b
+index-past crc at ls {xs = xs} {a = a} head past size e =
+    head
+    then record {
+      short = omega (arith, kept head, head .short);
+      place = rw (e, size, length-index) (omega arith);
+      buffer = sym (overlay-out xs a (index crc at ls) past);
+    }
 
 pub length-head : (crc : Bool) (ls : List ℕ) → length (head crc ls) ≡ 30
 unfolding head

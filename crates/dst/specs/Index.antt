@@ -1,12 +1,13 @@
 -- The index of the frames (01: "DSTI holds per frame an 8-byte offset of the DSTF header (12 more under `FrameData`) and a 4-byte length").
 -- Assumes nothing.
-use Prim.Native.Nat.{ℕ}
+use Prim.Native.Nat.{ℕ, _*_}
 use mathlib.Core.Path.{_≡_}
 use mathlib.Core.Bool.{Bool}
 use mathlib.Core.List.{List, [], _∷_, _++_}
 use lib.ListN.{length, take, drop}
 use Rattle.chunk.specs.Append.{moved}
 use Rattle.chunk.specs.Number.{be}
+use Rattle.chunk.specs.Name.{ascii}
 use Rattle.dst.specs.Unit.{unitSize}
 use Rattle.dst.specs.declared.index.DstIndexOffset.{DstIndexOffset}
 use Rattle.dst.specs.declared.index.DstIndexOffset.the-variants.{ChunkHeader, FrameData}
@@ -24,6 +25,10 @@ entry offset l = be 8 offset ++ be 4 l
 unfoldable pub index : Bool → ℕ → List ℕ → List ℕ
 index crc at [] = []
 index crc at (l ∷ ls) = entry at l ++ index crc (moved at (unitSize crc l)) ls
+
+-- DSTI, of entries whose first has this offset: its size, at most the largest u64 (which says that it does not fit), and the entries
+unfoldable pub dsti : Bool → ℕ → List ℕ → List ℕ
+dsti crc at ls = ascii "DSTI" ++ be 8 (moved 0 (12 * length ls)) ++ index crc at ls
 
 -- at a place of a file stands x
 abbrev pub Stands : List ℕ → ℕ → List ℕ → Type 0

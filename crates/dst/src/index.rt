@@ -1,7 +1,8 @@
-// The index of the frames: the data of DSTI.
+// The index of the frames: the chunk DSTI.
 ghost use mathlib.Core.Path.{_≡_};
+ghost use Prim.Native.Nat.{_*_};
 ghost use Rattle.chunk.specs.Append.{Appended, moved};
-ghost use Rattle.dst.specs.Index.{shiftOf, entry, index};
+ghost use Rattle.dst.specs.Index.{shiftOf, entry, index, dsti};
 use crate::unit::plus;
 use crate::unit::unit_size;
 use chunk::Cursor;
@@ -53,4 +54,34 @@ pub fn index(
         i += 1;
     }
     p
+}
+
+// Bytes of the entries of so many frames, at most the largest u64.
+fn index_size(frames: usize) -> u64
+    ensures { λ r. ⌜ r ≡ moved 0 (12 * frames) ⌝ }
+{
+    if frames <= 1_537_228_672_809_129_301 {
+        return 12 * frames as u64;
+    }
+    u64::MAX
+}
+
+// DSTI, where the first unit starts at `base`, from the file's start.
+pub fn dsti(
+    c: Cursor,
+    out: &mut [u8],
+    crc: bool,
+    offset: DstIndexOffset,
+    base: u64,
+    lengths: &[u32],
+) -> Cursor
+    ensures { λ r. ⌜ Appended (now (out .entry)) (c .at) (dsti crc (moved base (shiftOf offset)) (now (lengths .entry))) (now (out .exit)) (r .at) ⌝ }
+{
+    let size = index_size(lengths.len());
+    let c = c.chunk_head(out, *b"DSTI", size);
+    let at = c.at;
+    if out.len() <= at {
+        return c.skip(size as usize); // nothing is written, only measured
+    }
+    index(c, out, crc, offset, base, lengths)
 }

@@ -7,34 +7,34 @@ use lib.ListN.{length, take, drop, drop-of-length-le, List·getD-map}
 use lib.Seq.{take-all, drop-cons}
 use Rattle.chunk.specs.Rows.{firstRows, rows}
 use Rattle.chunk.proofs.ListLaws.{flatMap-append, flatMap-one}
-use Rattle.chunk.proofs.RowsLaws.{get-rows}
+use Rattle.chunk.proofs.RowsLaws.{get-rows, row-words, length-mapped, mapped-next, mapped-all}
 use Rattle.markers.specs.Track.{spanOf, spanAt, spans, clip, kept, clipped}
 use Rattle.markers.specs.declared.track.Span.{Span}
-use Rattle.markers.proofs.RowLaws.{row-whole, row-words, length-mapped, mapped-next, mapped-all}
+use Rattle.markers.proofs.RowLaws.{row-whole}
 
 module _ (words : List ℕ) (i : ℕ) where
   -- one track more, and all tracks
   pub spans-next : i < length words / 4 → take (i + 1) (spans words) ≡ take i (spans words) ++ (spanAt words i ∷ [])
   unfolding spans spanAt
-  spans-next more = mapped-next spanOf words i more
+  spans-next more = mapped-next spanOf 4 words i more
 
   pub spans-all : length words / 4 ≤ i → take i (spans words) ≡ spans words
   unfolding spans
-  spans-all done = mapped-all spanOf words i done
+  spans-all done = mapped-all spanOf 4 words i done
 
   -- track i alone, and the tracks after all
   one-span : i < length words / 4 → take 1 (drop i (spans words)) ≡ spanAt words i ∷ []
   unfolding spans spanAt
   one-span more =
       rw (
-        drop-cons (map spanOf (rows 4 words)) i (spanOf []) (omega (arith, length-mapped spanOf words)),
+        drop-cons (map spanOf (rows 4 words)) i (spanOf []) (omega (arith, length-mapped spanOf 4 words)),
         List·getD-map spanOf (rows 4 words) i [],
         get-rows 4 i words more,
       )
 
   pub spans-past : length words / 4 ≤ i → drop i (spans words) ≡ []
   unfolding spans
-  spans-past done = drop-of-length-le (map spanOf (rows 4 words)) {i = i} (omega (arith, length-mapped spanOf words))
+  spans-past done = drop-of-length-le (map spanOf (rows 4 words)) {i = i} (omega (arith, length-mapped spanOf 4 words))
 
 -- a row that is lent alone
 one-row : (row : List ℕ) → length row ≡ 4 → spans row ≡ spanOf row ∷ []
@@ -44,7 +44,7 @@ one-row row whole = rw (whole, take-all 4 row (omega arith))
 pub spans-row : (words : List ℕ) (i : ℕ) → i < length words / 4 → spans (take (i * 4 + 4 - i * 4) (drop (i * 4) words)) ≡ take 1 (drop i (spans words))
 unfolding spanAt
 spans-row words i more =
-    one-row (take (i * 4 + 4 - i * 4) (drop (i * 4) words)) (row-whole words i more) ∙ rw row-words (sym (one-span words i more))
+    one-row (take (i * 4 + 4 - i * 4) (drop (i * 4) words)) (row-whole words i more) ∙ rw (row-words 4 i words) (sym (one-span words i more))
 
 module _ (first end : ℕ) where
   pub clipped-append : (ss ts : List Span) → clipped first end (ss ++ ts) ≡ clipped first end ss ++ clipped first end ts

@@ -91,7 +91,7 @@ module _ (p : Properties) where
       go false h = rw (chunk-left-out part h) (omega arith)
 
   -- the data of PROP
-  pub property-short : (order : List PropertyChunk) → length order ≡ 5 → length (ascii "SND " ++ bytes (propertyChunks order p)) < 2 ^ 64
+  pub property-short : (order : List PropertyChunk) → length order ≡ 5 → length (ascii "SND " ++ bytes (propertyChunks order p)) ≤ 194
   property-short order five =
       omega (arith, flatMap-bound (λ part. bytes (propertyChunk p part)) 38 chunk-short order, ap length (bytes-each (propertyChunk p) order))
 

@@ -8,15 +8,19 @@ use native.Mathlib.Decide.{decLe}
 use native.Mathlib.Omega.{arith}
 use borrow.Author.Tests.{lt-leb}
 use lib.ListN.{length, take, drop, getD, length-take, length-drop, length-append}
-use lib.Seq.{take-all, getD-take, getD-drop}
+use lib.Seq.{take-all, drop-drop, getD-take, getD-drop}
 use Rattle.chunk.specs.Number.{be}
+use Rattle.chunk.specs.Name.{ascii}
+use Rattle.chunk.specs.Chunk.{chunk}
 use Rattle.chunk.specs.Rows.{firstRows, rows}
+use Rattle.chunk.specs.Tree.{stop, leaf, bytes}
 use Rattle.chunk.proofs.NumberLaws.{length-be}
 use Rattle.chunk.proofs.ChunkLaws.{length-pad, length-counts}
 use Rattle.chunk.proofs.ListLaws.{flatMap-take, flatMap-bound}
 use Rattle.chunk.proofs.RowsLaws.{length-rows, get-rows}
+use Rattle.chunk.proofs.TreeLaws.{bytes-stop, bytes-leaf}
 use Rattle.texts.specs.Text.{isWritten}
-use Rattle.texts.specs.Comment.{commentOf, commentHead, Written, asWritten, writtenComment, writtenComments, commentBytes, comtData, hasComt}
+use Rattle.texts.specs.Comment.{commentOf, commentHead, Written, asWritten, writtenComment, writtenComments, commentBytes, comtData, hasComt, comt, comtChunk}
 use Rattle.texts.specs.declared.text.TextOptions.{TextOptions}
 use Rattle.texts.specs.declared.comt.Comment.{Comment}
 use Rattle.texts.proofs.TextLaws.{extent-short}
@@ -74,7 +78,7 @@ module _ (pool : List ℕ) (o : TextOptions) where
   pub comments-few : (words : List ℕ) (i : ℕ) → length (firstComments words i) ≤ i
   comments-few words i = omega (arith, flatMap-bound ofRow 1 one (take i (rows 9 words)), length-take i (rows 9 words))
 
-  -- the comments of words that are u32 fit
+  -- a comment whose text has a length below 2 ^ 32, before others
   row-fits : (row : List ℕ) (cs : List Written) → getD row 8 0 < 2 ^ 32 → Fits cs → Fits (ofRow row ++ cs)
   unfolding writtenComment asWritten commentOf
   row-fits row cs u32 fits = go (isWritten o (length (asWritten pool o (commentOf row) .text)))
@@ -83,16 +87,21 @@ module _ (pool : List ℕ) (o : TextOptions) where
       go true = (length-commentHead (commentOf row), omega (arith, extent-short (o .rule) pool (commentOf row .text)), fits)
       go false = fits
 
-  rows-fit : (n : ℕ) (words : List ℕ) → ((k : ℕ) → getD words k 0 < 2 ^ 32) → Fits (flatMap ofRow (firstRows 9 n words))
+  rows-fit : (n : ℕ) (words : List ℕ) → ((k : ℕ) → k < n → getD (take 9 (drop (k * 9) words)) 8 0 < 2 ^ 32) → Fits (flatMap ofRow (firstRows 9 n words))
   unfolding firstRows flatMap
-  rows-fit zero words u32 = tt
-  rows-fit (suc n) words u32 =
-      row-fits (take 9 words) _ (rw (getD-take 9 words 8 0 (omega arith)) (u32 8))
-      (rows-fit n (drop 9 words) (λ k. rw (getD-drop 9 words k 0) (u32 (9 + k))))
+  rows-fit zero words h = tt
+  rows-fit (suc n) words h =
+      row-fits (take 9 words) _ (h 0 (omega arith))
+      (rows-fit n (drop 9 words) (λ k l. let next : suc k * 9 ≡ 9 + k * 9 = omega arith in rw drop-drop (rw next at (h (suc k) (omega arith)))))
 
-  pub comments-fit : (words : List ℕ) → ((k : ℕ) → getD words k 0 < 2 ^ 32) → Fits (writtenComments pool words o)
+  -- the comments of rows whose texts have lengths below 2 ^ 32
+  pub comments-fit : (words : List ℕ) → ((k : ℕ) → k < length words / 9 → getD (take 9 (drop (k * 9) words)) 8 0 < 2 ^ 32) → Fits (writtenComments pool words o)
   unfolding writtenComments rows
-  comments-fit words u32 = rows-fit (length words / 9) words u32
+  comments-fit words h = rows-fit (length words / 9) words h
+
+  -- and so of words that are u32
+  pub words-fit : (words : List ℕ) → ((k : ℕ) → getD words k 0 < 2 ^ 32) → Fits (writtenComments pool words o)
+  words-fit words u32 = comments-fit words (λ k l. rw (getD-take 9 (drop (k * 9) words) 8 0 (omega arith), getD-drop (k * 9) words 8 0) (u32 (k * 9 + 8)))
 
 -- a COMT has no more comments than its count can tell
 pub comt-count : (cs : List Written) → hasComt cs ≡ true → length cs ≤ 65_535
@@ -108,5 +117,14 @@ pub length-comtData : (k : ℕ) (cs : List Written) → length (comtData cs) ≡
 unfolding comtData
 length-comtData k cs = simp (length-append, length-be)
 
-pub comtData-short : (cs : List Written) → Fits cs → hasComt cs ≡ true → (k : ℕ) → length (be 2 k ++ flatMap commentBytes cs) < 2 ^ 64
+pub comtData-short : (cs : List Written) → Fits cs → hasComt cs ≡ true → (k : ℕ) → length (be 2 k ++ flatMap commentBytes cs) < 2 ^ 49
 comtData-short cs fits has k = rw (length-append, length-be) (omega (arith, comments-room cs fits, comt-count cs has))
+
+-- COMT as chunks of a tree is COMT
+pub comt-tree : (pool words : List ℕ) (o : TextOptions) → bytes (comtChunk pool words o) ≡ comt pool words o
+unfolding comtChunk comt
+comt-tree pool words o = go (hasComt (writtenComments pool words o)) (comtData (writtenComments pool words o))
+  where
+    go : (b : Bool) (content : List ℕ) → bytes (cond b (leaf (ascii "COMT") content stop) stop) ≡ cond b (chunk (ascii "COMT") content) []
+    go true content = bytes-leaf (ascii "COMT") content
+    go false content = bytes-stop

@@ -16,7 +16,7 @@ use Rattle.chunk.proofs.ValueLaws.{count-read, counts-long, counted-text}
 use Rattle.texts.specs.DiinText.{diinTextData, diinTextValue}
 use Rattle.texts.specs.Comment.{Written, writtenComments, commentBytes, comtData, hasComt, comtValue}
 use Rattle.texts.specs.declared.text.TextOptions.{TextOptions}
-use Rattle.texts.proofs.CommentLaws.{Fits, comments-fit, comt-count}
+use Rattle.texts.proofs.CommentLaws.{Fits, words-fit, comt-count}
 
 -- DIAR and DITI, with the pad in the data and without it
 pub diin-text-value : (name : Name) → (same name (ascii "DIAR") || same name (ascii "DITI")) ≡ true
@@ -60,4 +60,4 @@ pub comt-value : (pool words : List ℕ) (o : TextOptions) → ((k : ℕ) → ge
     → value (ascii "FRM8") (ascii "COMT") (comtData (writtenComments pool words o)) ≡ comtValue (writtenComments pool words o)
 comt-value pool words o u32 has =
     let cs = writtenComments pool words o in
-    comt-plain cs (omega (arith, comt-count cs has)) (comments-fit pool o words u32)
+    comt-plain cs (omega (arith, comt-count cs has)) (words-fit pool o words u32)

@@ -10,6 +10,7 @@ use Rattle.chunk.specs.Number.{be}
 use Rattle.chunk.specs.Name.{ascii}
 use Rattle.chunk.specs.Chunk.{pad, chunk, counts}
 use Rattle.chunk.specs.Rows.{rows}
+use Rattle.chunk.specs.Tree.{Chunks, stop, leaf}
 use Rattle.texts.specs.Extent.{part}
 use Rattle.texts.specs.Text.{textBytes, isWritten}
 use Rattle.texts.specs.declared.text.TextOptions.{TextOptions}
@@ -68,6 +69,10 @@ hasComt cs = not (eqb (length cs) 0) && leb (length cs) 65_535
 -- COMT, or nothing
 unfoldable pub comt : List ℕ → List ℕ → TextOptions → List ℕ
 comt pool words o = let cs = writtenComments pool words o in cond (hasComt cs) (chunk (ascii "COMT") (comtData cs)) []
+
+-- the same as chunks of a tree
+unfoldable pub comtChunk : List ℕ → List ℕ → TextOptions → Chunks
+comtChunk pool words o = let cs = writtenComments pool words o in cond (hasComt cs) (leaf (ascii "COMT") (comtData cs) stop) stop
 
 -- what the old reader is to get of COMT: the count and the comments, none with a pad
 unfoldable pub comtValue : List Written → List ℕ

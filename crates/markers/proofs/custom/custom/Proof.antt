@@ -7,10 +7,11 @@ use lib.ListN.{length, take, drop}
 use Rattle.chunk.specs.Append.{Appended}
 use Rattle.chunk.specs.Tree.{bytes, each}
 use Rattle.chunk.proofs.AppendLaws.{_then_, none}
+use Rattle.chunk.proofs.RowsLaws.{row-words, mapped-next, mapped-all}
 use Rattle.chunk.proofs.TreeLaws.{bytes-each-append, bytes-each-one}
 use Rattle.markers.specs.Marker.{mark}
 use Rattle.markers.specs.Custom.{customOf, customs}
-use Rattle.markers.proofs.RowLaws.{row-whole, row-words, mapped-next, mapped-all}
+use Rattle.markers.proofs.RowLaws.{row-whole}
 use Rattle.markers.proofs.custom.custom.Statement.{statement}
 use Rattle.markers.proofs.custom.custom.Tie as tie
 
@@ -43,17 +44,17 @@ loop-again c =
     let words = now (start .args .rows) in
     let i = turn .loop .i in
     let f = mark (now (start .args .pool)) (now (start .args .raw)) (start .args .how) in
-    let one = rw (row .custom-of .ensures, row-words words i, ← bytes-each-one f (customOf (take 4 (drop (i * 4) words)))) at (c₁ .mark .ensures) in (
+    let one = rw (row .custom-of .ensures, row-words 4 i words, ← bytes-each-one f (customOf (take 4 (drop (i * 4) words)))) at (c₁ .mark .ensures) in (
       search needs,
       search needs,
-      rw (mapped-next customOf words i (search needs), bytes-each-append) (turn .loop .inv .2 then one),
+      rw (mapped-next customOf 4 words i (search needs), bytes-each-append) (turn .loop .inv .2 then one),
     )
 
 returns : tie.Need-returns Inv-loop μ-loop
 unfolding customs
 returns c =
     let start = c .before .before .before .before .before .before in
-    rw (mapped-all customOf (now (start .args .rows)) (c .before .loop .i) (search needs)) at (c .before .loop .inv .2)
+    rw (mapped-all customOf 4 (now (start .args .rows)) (c .before .loop .i) (search needs)) at (c .before .loop .inv .2)
 
 pub custom-spec : {M : Type 1} → statement M
 custom-spec =

@@ -3,7 +3,8 @@ use mathlib.Core.Path.{_∙_, ap}
 use borrow.Author.Needs.{needs}
 use denote.Ref.{now}
 use Rattle.markers.specs.Track.{spanOf, spanAt}
-use Rattle.markers.proofs.RowLaws.{row-whole, row-words}
+use Rattle.chunk.proofs.RowsLaws.{row-words}
+use Rattle.markers.proofs.RowLaws.{row-whole}
 use Rattle.markers.proofs.track.span_at.Statement.{statement}
 use Rattle.markers.proofs.track.span_at.Tie as tie
 
@@ -14,7 +15,7 @@ returns : tie.Need-returns
 unfolding spanAt
 returns c =
     let start = c .before .before .before in
-    c .span-of .ensures ∙ ap spanOf (row-words (now (start .args .tracks)) (start .args .i))
+    c .span-of .ensures ∙ ap spanOf (row-words 4 (start .args .i) (now (start .args .tracks)))
 
 pub span-at-spec : {M : Type 1} → statement M
 span-at-spec =

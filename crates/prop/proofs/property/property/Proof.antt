@@ -10,6 +10,7 @@ use lib.ListN.{length}
 use mathlib.Core.Path.{_≡_}
 use mathlib.Core.List.{_++_}
 use borrow.Author.Needs.{needs}
+use native.Mathlib.Omega.{arith}
 use Rattle.prop.proofs.property.property.Statement.{statement}
 use Rattle.prop.proofs.property.property.Tie as tie
 
@@ -25,7 +26,7 @@ returns c =
     let inside = ascii "SND " ++ bytes (propertyChunks (start .args .order) (start .args .p)) in
     rw bytes-node
     (chunked (ascii "PROP") (c₀ .property-data .result .at)
-    (measured {bs = inside} (rw (c₀ .before .before .new .ensures) at (c₀ .property-data .ensures)) (property-short (start .args .p) (start .args .order) five))
+    (measured {bs = inside} (rw (c₀ .before .before .new .ensures) at (c₀ .property-data .ensures)) (omega (arith, property-short (start .args .p) (start .args .order) five)))
     (c₁ .chunk-head .ensures)
     (c₂ .property-data2 .ensures)
     (c₃ .pad .ensures))

@@ -11,7 +11,7 @@ use Rattle.chunk.specs.Name.{ascii}
 use Rattle.chunk.proofs.AppendLaws.{none, measured}
 use Rattle.chunk.proofs.ChunkLaws.{chunked}
 use Rattle.texts.specs.Comment.{writtenComments, commentBytes, comtData, hasComt, comt}
-use Rattle.texts.proofs.CommentLaws.{comments-fit, comt-count, length-comtData, comtData-short}
+use Rattle.texts.proofs.CommentLaws.{words-fit, comt-count, length-comtData, comtData-short}
 use Rattle.texts.proofs.comt.comt.Statement.{statement}
 use Rattle.texts.proofs.comt.comt.Tie as tie
 
@@ -47,10 +47,10 @@ returns-2 c =
     let o = start .args .options in
     let cs = writtenComments (now (start .args .pool)) (now (start .args .rows)) o in
     let has : hasComt cs ≡ true = rw (← c₀ .comt-data .ensures .1) (not-false _ (written .if1 .left)) in
-    let fits = comments-fit (now (start .args .pool)) o (now (start .args .rows)) (λ k. omega (arith, rows .shared-slice-known2 .given k)) in
+    let fits = words-fit (now (start .args .pool)) o (now (start .args .rows)) (λ k. omega (arith, rows .shared-slice-known2 .given k)) in
     rw has
     (chunked (ascii "COMT") (c₀ .comt-data .result .end .at)
-    (length-comtData 0 cs ∙ measured {bs = be 2 0 ++ flatMap commentBytes cs} (rw (c₀ .before .before .new .ensures) at (c₀ .comt-data .ensures .0)) (comtData-short cs fits has 0))
+    (length-comtData 0 cs ∙ measured {bs = be 2 0 ++ flatMap commentBytes cs} (rw (c₀ .before .before .new .ensures) at (c₀ .comt-data .ensures .0)) (omega (arith, comtData-short cs fits has 0)))
     (c₁ .chunk-head .ensures)
     (rw (c₀ .comt-data .ensures .1) at (c₂ .comt-data2 .ensures .0))
     (c₃ .pad .ensures))

@@ -1,0 +1,5 @@
+pub mod Parts
+pub mod Sound
+pub mod Caller
+pub mod Sides
+pub mod File
