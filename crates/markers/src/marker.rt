@@ -48,7 +48,7 @@ pub struct Marking {
 }
 
 impl MarkerKind {
-    fn value(self) -> u16
+    pub fn value(self) -> u16
         ensures { λ r. ⌜ r ≡ kindNumber self ⌝ }
     {
         match self {

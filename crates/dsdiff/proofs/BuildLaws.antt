@@ -1,0 +1,103 @@
+-- The outcome of a build, from what was measured and written. Assumes nothing.
+use mathlib.Core.Path.{_≡_, ap, sym, _∙_}
+use mathlib.Core.List.{List, _++_}
+use Prim.Native.Nat.{ℕ, _+_, _-_, _^_, _≤_, _<_, min}
+use native.Mathlib.Nat.{zero-add}
+use native.Mathlib.Omega.{arith}
+use borrow.Author.Tests.{lt-ltb, le-ltb}
+use lib.ListN.{length, drop}
+use Rattle.chunk.specs.Append.{overlay}
+use Rattle.chunk.specs.Number.{be}
+use Rattle.chunk.specs.Name.{ascii}
+use Rattle.chunk.proofs.AppendLaws.{overlay-room}
+use Rattle.refusal.specs.declared.verdict.Verdict.{Verdict}
+use Rattle.refusal.specs.declared.verdict.Verdict.the-variants.{Accepted, Refused}
+use Rattle.checks.specs.Inputs.{Inputs, verdict}
+use Rattle.layout.specs.File.{frontOf, backOf, place, soundLength, formSize, headerOf, trailerOf, Ordered}
+use Rattle.layout.proofs.FileLaws.{length-front, length-back, length-header}
+use Rattle.layout.proofs.SizeLaws.{front-low, back-low, sound-low}
+use Rattle.dsdiff.specs.declared.build.Answer.{Answer}
+use Rattle.dsdiff.specs.declared.build.Answer.the-variants as answer
+use Rattle.dsdiff.specs.declared.build.Lengths.{Lengths}
+use Rattle.dsdiff.specs.Build.{roomFault, buildVerdict, Outcome}
+use Rattle.dsdiff.specs.Within.{Measured, Filled}
+
+-- where there is room, what is laid over the front stands before the rest
+laid : (xs bs : List ℕ) → length bs ≤ length xs → overlay xs 0 bs ≡ bs ++ drop (length bs) xs
+laid xs bs h = overlay-room xs 0 bs (omega arith) ∙ rw zero-add
+
+-- WHAT WAS MEASURED of accepted inputs
+module _ (x : Inputs) (ok : verdict x ≡ Accepted) (m : Lengths) (known : Measured x m) where
+  front-long : m .front ≡ length (frontOf x 0)
+  front-long = omega (arith, known .front, front-low x ok (known .orders) 0)
+
+  back-long : m .back ≡ length (backOf x 0)
+  back-long = omega (arith, known .back, back-low x ok (known .orders) 0)
+
+  pub front-fits : m .front < 2 ^ 54
+  front-fits = omega (arith, front-long, front-low x ok (known .orders) 0)
+
+  pub back-fits : m .back < 2 ^ 54
+  back-fits = omega (arith, back-long, back-low x ok (known .orders) 0)
+
+  pub header-long : 12 + m .front ≡ length (headerOf x)
+  unfolding place
+  header-long = ap (λ (n : ℕ). 12 + n) front-long ∙ sym (length-header x)
+
+  pub trailer-long : m .back ≡ length (trailerOf x)
+  unfolding trailerOf
+  trailer-long = back-long ∙ length-back x 0 (place x)
+
+  there : 12 + m .front ≡ place x
+  there = header-long ∙ length-header x
+
+  -- what is written is the header and the trailer
+  pub header-filled : {s : ℕ} {h h′ t t′ : List ℕ} → s ≡ soundLength x → Filled x (m .front + s + m .back) (12 + m .front) h h′ t t′ → h′ ≡ overlay h 0 (headerOf x)
+  unfolding headerOf
+  header-filled {s} e f =
+      let a = front-long ∙ length-front x 0 (place x) in
+      let b = back-long ∙ length-back x 0 (place x) in
+      let size : m .front + s + m .back ≡ formSize x = omega (arith, a, b, e) in
+      f .header ∙ rw (size, there)
+
+  pub trailer-filled : {n : ℕ} {h h′ t t′ : List ℕ} → Filled x n (12 + m .front) h h′ t t′ → t′ ≡ overlay t 0 (trailerOf x)
+  unfolding trailerOf
+  trailer-filled f = f .trailer ∙ rw there
+
+-- the measured sound of accepted inputs
+pub sound-long : (x : Inputs) (ok : verdict x ≡ Accepted) (sized : Ordered x) {s : ℕ} → s ≡ min (soundLength x) (2 ^ 64 - 1) → s ≡ soundLength x
+sound-long x ok sized e = omega (arith, e, sound-low x ok sized)
+
+-- THE OUTCOMES
+module _ (x : Inputs) (sized : Ordered x) (h t : List ℕ) where
+  pub short-header : {n : ℕ} → n ≡ length (headerOf x) → length h < n → Outcome x (roomFault x h t) h h t t (answer.Refused 40 n)
+  unfolding roomFault
+  short-header {n} e l =
+      let test = lt-ltb (length h) (length (headerOf x)) (omega arith) in
+      record { orders = sized; answers = rw (test, e); header = rw test; trailer = rw test }
+
+  pub short-trailer : {n m : ℕ} → n ≡ length (headerOf x) → m ≡ length (trailerOf x) → n ≤ length h → length t < m → Outcome x (roomFault x h t) h h t t (answer.Refused 41 m)
+  unfolding roomFault
+  short-trailer e f l k =
+      let first = le-ltb (length h) (length (headerOf x)) (omega arith) in
+      let test = lt-ltb (length t) (length (trailerOf x)) (omega arith) in
+      record { orders = sized; answers = rw (first, test, f); header = rw (first, test); trailer = rw (first, test) }
+
+  pub built : {n m s : ℕ} {h′ t′ : List ℕ} → n ≡ length (headerOf x) → m ≡ length (trailerOf x) → n ≤ length h → m ≤ length t → s ≡ soundLength x
+      → h′ ≡ overlay h 0 (headerOf x) → t′ ≡ overlay t 0 (trailerOf x) → Outcome x (roomFault x h t) h h′ t t′ (answer.Built n s m)
+  unfolding roomFault
+  built e f l k s p q =
+      let first = le-ltb (length h) (length (headerOf x)) (omega arith) in
+      let test = le-ltb (length t) (length (trailerOf x)) (omega arith) in
+      record {
+        orders = sized;
+        answers = rw (first, test, e, f, s);
+        header = rw (first, test) (p ∙ laid h (headerOf x) (omega arith));
+        trailer = rw (first, test) (q ∙ laid t (trailerOf x) (omega arith));
+      }
+
+  pub refused : {v : Verdict} {n d : ℕ} → v ≡ verdict x → v ≡ Refused n d → Outcome x (buildVerdict x h t) h h t t (answer.Refused n d)
+  refused e k = record { orders = sized; answers = rw (← e, k); header = rw (← e, k); trailer = rw (← e, k) }
+
+  pub accepted : {v : Verdict} {h′ t′ : List ℕ} {r : Answer} → v ≡ verdict x → v ≡ Accepted → Outcome x (roomFault x h t) h h′ t t′ r → Outcome x (buildVerdict x h t) h h′ t t′ r
+  accepted e k o = rw (← e, k) o
