@@ -1,1 +1,2 @@
 pub mod BuildLaws
+pub mod StarredFigures
