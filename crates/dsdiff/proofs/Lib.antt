@@ -1,2 +1,3 @@
 pub mod BuildLaws
+pub mod WholeLaws
 pub mod StarredFigures

@@ -136,17 +136,17 @@ fn fill(
     comments: &[u32],
     callers: &[u32],
     lengths: &[u32],
-    header: &mut [u8],
-    trailer: &mut [u8],
+    head: &mut [u8],
+    tail: &mut [u8],
 )
     ensures { λ _. ⌜ Filled (inputsOf area options «property_order» «info_order» «local_order» «local_count» (now (pool .entry)) (now (raw .entry)) (now (tracks .entry)) (now (markers .entry)) (now (comments .entry)) (now (callers .entry)) (now (lengths .entry))) size base
-        (now (header .entry)) (now (header .exit)) (now (trailer .entry)) (now (trailer .exit)) ⌝ }
+        (now (head .entry)) (now (head .exit)) (now (tail .entry)) (now (tail .exit)) ⌝ }
 {
     let start = Cursor::new();
-    let c = start.chunk_head(header, *b"FRM8", size);
+    let c = start.chunk_head(head, *b"FRM8", size);
     layout::sides::front(
         c,
-        header,
+        head,
         base,
         area,
         options,
@@ -163,7 +163,7 @@ fn fill(
     );
     layout::sides::back(
         start,
-        trailer,
+        tail,
         base,
         area,
         options,

@@ -82,7 +82,7 @@ pub fn back(
         (back (partsOf area options «property_order» «info_order» (now (pool .entry)) (now (raw .entry)) (now (tracks .entry)) (now (markers .entry)) (now (comments .entry)) (now (lengths .entry))) base (named «local_order» «local_count») (now (callers .entry)))
         (now (out .exit)) (r .at) ⌝ }
 {
-    let c = crate::locals::local_chunks(
+    let end = crate::locals::local_chunks(
         c,
         out,
         true,
@@ -100,5 +100,5 @@ pub fn back(
         comments,
         lengths,
     );
-    crate::callers::caller_chunks(c, out, raw, callers)
+    crate::callers::caller_chunks(end, out, raw, callers)
 }
