@@ -1,5 +1,3 @@
-pub mod Text
 pub mod Sound
-pub mod Property
-pub mod Diin
 pub mod Verdict
+pub mod Build

@@ -1,17 +1,12 @@
--- What the numbers of the exported sound functions mean. Assumes nothing.
+-- The answers of the exported reads of the sound. Assumes nothing.
 use mathlib.Core.Path.{_≡_}
 use Prim.Native.Nat.{ℕ, _-_, _^_, min}
 use mathlib.Core.Bool.{Bool, cond}
 use mathlib.Core.List.{List}
 use lib.ListN.{length, drop}
 use Rattle.chunk.specs.Append.{overlay}
-use Rattle.dst.specs.declared.index.DstIndexOffset.{DstIndexOffset}
-use Rattle.dst.specs.declared.index.DstIndexOffset.the-variants.{ChunkHeader, FrameData}
 use Rattle.dst.specs.declared.lent.Fill.{Fill}
 use Rattle.dst.specs.declared.lent.Fill.the-variants.{Filled, NotLent}
-
-abbrev pub offsetOf : Bool → DstIndexOffset
-offsetOf frameData = cond frameData FrameData ChunkHeader
 
 -- the bytes that a read filled, or the largest usize
 abbrev pub countOf : Fill → ℕ

@@ -3,63 +3,13 @@ ghost use mathlib.Core.Path.{_≡_};
 ghost use Rattle.chunk.specs.Append.{Appended};
 ghost use Rattle.chunk.specs.Tree.{bytes};
 ghost use Rattle.markers.specs.Diin.{diin};
-ghost use Rattle.abi.specs.Text.{optionsOf};
-ghost use Rattle.abi.specs.Property.{startOf};
-ghost use Rattle.abi.specs.Diin.{givenText, sourceOf, infoChunkOf, infoOrderOf};
+ghost use Rattle.meanings.specs.Text.{optionsOf};
+ghost use Rattle.meanings.specs.Property.{startOf};
+ghost use Rattle.meanings.specs.Diin.{givenText, sourceOf, infoOrderOf};
 use chunk::Cursor;
-use chunk::names::InfoChunk;
 use markers::diin::Info;
 use markers::pick::ArtistTitle;
-use markers::pick::ArtistTitleSource;
 use markers::program::ProgramOptions;
-use texts::diin_text::Text;
-
-// A text of three words: whether it is given (0: no), start, length.
-pub(crate) fn given_text(words: [u32; 3]) -> Text
-    ensures { λ r. ⌜ r ≡ givenText words ⌝ }
-{
-    crate::text::text(words[0] != 0, words[1], words[2])
-}
-
-// 0 is the album's, 1 the track's, any other the track's, then the album's.
-pub(crate) fn artist_title_source(number: u8) -> ArtistTitleSource
-    ensures { λ r. ⌜ r ≡ sourceOf number ⌝ }
-{
-    if number == 0 {
-        return ArtistTitleSource::Album;
-    }
-    if number == 1 {
-        return ArtistTitleSource::Track;
-    }
-    ArtistTitleSource::TrackThenAlbum
-}
-
-// 0 is EMID, 1 all MARK, 2 is DIAR, any other is DITI.
-fn info_chunk(number: u8) -> InfoChunk
-    ensures { λ r. ⌜ r ≡ infoChunkOf number ⌝ }
-{
-    if number == 0 {
-        return InfoChunk::EditedMasterId;
-    }
-    if number == 1 {
-        return InfoChunk::Markers;
-    }
-    if number == 2 {
-        return InfoChunk::Artist;
-    }
-    InfoChunk::Title
-}
-
-pub(crate) fn info_order(numbers: [u8; 4]) -> [InfoChunk; 4]
-    ensures { λ r. ⌜ r ≡ infoOrderOf numbers ⌝ }
-{
-    [
-        info_chunk(numbers[0]),
-        info_chunk(numbers[1]),
-        info_chunk(numbers[2]),
-        info_chunk(numbers[3]),
-    ]
-}
 
 // DIIN, its chunks in the order of these numbers. EMID and the texts of custom markers are bytes of `raw`, the other texts values of `pool`.
 #[no_mangle]
@@ -121,7 +71,7 @@ pub extern "C" fn jangqeruz_diin(
     let info = Info {
         on: on,
         empty_info: empty_info,
-        emid: given_text(*emid),
+        emid: meanings::diin::given_text(*emid),
         custom_markers: custom_markers,
         program: ProgramOptions {
             first: first,
@@ -132,20 +82,29 @@ pub extern "C" fn jangqeruz_diin(
             clipped_program: clipped_program,
             titles: titles,
         },
-        start: crate::property::start(start_given, start_frame),
-        text: crate::text::options(rule_number, replacement, empty_text, text_pad_counted),
+        start: meanings::property::start(start_given, start_frame),
+        text: meanings::text::options(rule_number, replacement, empty_text, text_pad_counted),
         artist_title: artist_title,
-        artist_title_source: artist_title_source(source_number),
+        artist_title_source: meanings::diin::artist_title_source(source_number),
         album: ArtistTitle {
-            artist: given_text(*album_artist),
-            title: given_text(*album_title),
+            artist: meanings::diin::given_text(*album_artist),
+            title: meanings::diin::given_text(*album_title),
         },
         track: ArtistTitle {
-            artist: given_text(*track_artist),
-            title: given_text(*track_title),
+            artist: meanings::diin::given_text(*track_artist),
+            title: meanings::diin::given_text(*track_title),
         },
     };
     let c = Cursor::new();
-    let end = markers::diin::diin(c, out, pool, raw, tracks, custom, info_order(*order), info);
+    let end = markers::diin::diin(
+        c,
+        out,
+        pool,
+        raw,
+        tracks,
+        custom,
+        meanings::diin::info_order(*order),
+        info,
+    );
     end.at
 }

@@ -5,3 +5,4 @@ pub mod sound; // sound.rt: the CRC, the DST chunk's head and index, and reads o
 pub mod property; // property.rt: PROP
 pub mod diin; // diin.rt: DIIN
 pub mod verdict; // verdict.rt: the verdict on the inputs of a build
+pub mod build; // build.rt: header and trailer of a file

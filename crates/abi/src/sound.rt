@@ -13,21 +13,11 @@ ghost use Rattle.dst.specs.Positions.{positions, number, between};
 ghost use Rattle.dst.specs.Head.{head};
 ghost use Rattle.dst.specs.Index.{shiftOf, index};
 ghost use Rattle.dst.specs.Lent.{isLent, framesWith, contentsWith};
-ghost use Rattle.abi.specs.Sound.{offsetOf, countOf, Count};
+ghost use Rattle.meanings.specs.Sound.{offsetOf};
+ghost use Rattle.abi.specs.Sound.{countOf, Count};
 use chunk::Cursor;
-use dst::index::DstIndexOffset;
 use dst::lent::Fill;
 use dst::window::Window;
-
-// An offset of the index leads to the frame's data, or to its chunk's header.
-pub(crate) fn offset(frame_data: bool) -> DstIndexOffset
-    ensures { λ r. ⌜ r ≡ offsetOf «frame_data» ⌝ }
-{
-    if frame_data {
-        return DstIndexOffset::FrameData;
-    }
-    DstIndexOffset::ChunkHeader
-}
 
 // How many bytes a read filled.
 fn count(fill: Fill) -> usize
@@ -68,7 +58,14 @@ pub extern "C" fn jangqeruz_dst_index(
     ensures { λ r. ⌜ Appended (now (out .entry)) 0 (index crc (moved base (shiftOf (offsetOf «frame_data»))) (now (lengths .entry))) (now (out .exit)) r ⌝ }
 {
     let c = Cursor::new();
-    let end = dst::index::index(c, out, crc, offset(frame_data), base, lengths);
+    let end = dst::index::index(
+        c,
+        out,
+        crc,
+        meanings::sound::offset(frame_data),
+        base,
+        lengths,
+    );
     end.at
 }
 

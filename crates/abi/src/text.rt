@@ -5,53 +5,9 @@ ghost use Rattle.texts.specs.Extent.{part};
 ghost use Rattle.texts.specs.Text.{textBytes};
 ghost use Rattle.texts.specs.DiinText.{diinText};
 ghost use Rattle.texts.specs.Comment.{comt};
-ghost use Rattle.abi.specs.Text.{ruleOf, optionsOf, textOf};
+ghost use Rattle.meanings.specs.Text.{ruleOf, optionsOf, textOf};
 use chunk::Cursor;
-use texts::diin_text::Text;
 use texts::extent::Extent;
-use texts::text::TextOptions;
-use texts::text::TextRule;
-
-// 0 replaces by a byte, 1 removes, any other is D2.
-fn rule(number: u8, replacement: u8) -> TextRule
-    ensures { λ r. ⌜ r ≡ ruleOf number replacement ⌝ }
-{
-    if number == 0 {
-        return TextRule::Replace(replacement);
-    }
-    if number == 1 {
-        return TextRule::Remove;
-    }
-    TextRule::D2
-}
-
-pub(crate) fn options(
-    rule_number: u8,
-    replacement: u8,
-    empty_text: bool,
-    text_pad_counted: bool,
-) -> TextOptions
-    ensures { λ r. ⌜ r ≡ optionsOf «rule_number» replacement «empty_text» «text_pad_counted» ⌝ }
-{
-    TextOptions {
-        rule: rule(rule_number, replacement),
-        empty_text: empty_text,
-        text_pad_counted: text_pad_counted,
-    }
-}
-
-// A text that may be missing.
-pub(crate) fn text(given: bool, start: u32, length: u32) -> Text
-    ensures { λ r. ⌜ r ≡ textOf given start length ⌝ }
-{
-    if given {
-        return Text::Given(Extent {
-            start: start,
-            length: length,
-        });
-    }
-    Text::Absent
-}
 
 // A text's bytes.
 #[no_mangle]
@@ -69,7 +25,7 @@ pub extern "C" fn jangqeruz_text_bytes(
     let end = texts::text::text_bytes(
         c,
         out,
-        rule(rule_number, replacement),
+        meanings::text::rule(rule_number, replacement),
         pool,
         Extent {
             start: start,
@@ -98,9 +54,16 @@ pub extern "C" fn jangqeruz_diin_text(
         (optionsOf «rule_number» replacement «empty_text» «text_pad_counted»))
         (now (out .exit)) r ⌝ }
 {
-    let options = options(rule_number, replacement, empty_text, text_pad_counted);
+    let options = meanings::text::options(rule_number, replacement, empty_text, text_pad_counted);
     let c = Cursor::new();
-    let end = texts::diin_text::diin_text(c, out, *id, pool, text(given, start, length), options);
+    let end = texts::diin_text::diin_text(
+        c,
+        out,
+        *id,
+        pool,
+        meanings::text::text(given, start, length),
+        options,
+    );
     end.at
 }
 
@@ -120,7 +83,7 @@ pub extern "C" fn jangqeruz_comt(
         (optionsOf «rule_number» replacement «empty_text» «text_pad_counted»))
         (now (out .exit)) r ⌝ }
 {
-    let options = options(rule_number, replacement, empty_text, text_pad_counted);
+    let options = meanings::text::options(rule_number, replacement, empty_text, text_pad_counted);
     let c = Cursor::new();
     let end = texts::comt::comt(c, out, pool, rows, options);
     end.at

@@ -8,7 +8,7 @@ ghost use Rattle.chunk.specs.Name.{ascii};
 ghost use Rattle.refusal.specs.declared.verdict.Verdict.the-variants.{Accepted};
 ghost use Rattle.checks.specs.Inputs.{verdict};
 ghost use Rattle.layout.specs.File.{frontOf, backOf};
-ghost use Rattle.dsdiff.specs.Answer.{numberOf};
+ghost use Rattle.dsdiff.specs.Answer.{numberOf, valuesOf};
 ghost use Rattle.dsdiff.specs.Build.{inputsOf, Builds, LaysOut};
 ghost use Rattle.dsdiff.specs.Within.{Measured, Filled};
 use checks::area::Area;
@@ -47,6 +47,24 @@ impl Answer {
             }
             Answer::Refused { number, detail: _ } => {
                 return number;
+            }
+        }
+    }
+
+    // The lengths of header, sound and trailer, or the detail of a refusal and zeros.
+    pub fn values(self) -> [u64; 3]
+        ensures { λ r. ⌜ r ≡ valuesOf self ⌝ }
+    {
+        match self {
+            Answer::Built {
+                header,
+                sound,
+                trailer,
+            } => {
+                return [header, sound, trailer];
+            }
+            Answer::Refused { number: _, detail } => {
+                return [detail, 0, 0];
             }
         }
     }

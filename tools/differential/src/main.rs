@@ -3,6 +3,7 @@
 
 #![forbid(unsafe_code)]
 
+mod builds;
 mod calls;
 mod checks;
 mod chunks;
@@ -14,54 +15,81 @@ mod subject;
 mod text;
 
 use std::env;
-use std::path::PathBuf;
+use std::path::{Path, PathBuf};
 use std::process::ExitCode;
 
-const USAGE: &str = "usage: differential [--seed N] [--count N] PROGRAM";
+const USAGE: &str = "usage: differential [--seed N] [--count N] [--subject NAME] [--record FILE] PROGRAM";
 
 struct Arguments {
     seed: u64,
     count: u64,
+    /// All if none is named.
+    subject: Option<String>,
+    /// Nothing is compared then.
+    record: Option<PathBuf>,
     program: PathBuf,
 }
 
+/// Runs a subject's cases of a seed, and answers whether all agreed.
+type Run = fn(&Path, u64, u64) -> Result<bool, String>;
+
+const SUBJECTS: [(&str, Run); 5] = [
+    ("text", subject::run::<text::Text>),
+    ("markers", subject::run::<markers::Markers>),
+    ("sound", subject::run::<sound::Sound>),
+    ("checks", subject::run::<checks::Checks>),
+    ("builds", subject::run::<builds::Builds>),
+];
+
 fn arguments() -> Option<Arguments> {
     let (mut seed, mut count, mut program) = (20_240_611, 20_000, None);
+    let (mut subject, mut record) = (None, None);
     let mut words = env::args().skip(1);
     while let Some(word) = words.next() {
         match word.as_str() {
             "--seed" => seed = words.next()?.parse().ok()?,
             "--count" => count = words.next()?.parse().ok()?,
+            "--subject" => {
+                let name = words.next()?;
+                SUBJECTS.iter().find(|(other, _)| *other == name)?;
+                subject = Some(name);
+            }
+            "--record" => record = Some(words.next()?.into()),
             _ if program.is_none() && !word.starts_with("--") => program = Some(word.into()),
             _ => return None,
         }
     }
     let program = program?;
-    Some(Arguments { seed, count, program })
+    Some(Arguments { seed, count, subject, record, program })
 }
 
 fn main() -> ExitCode {
-    let Some(Arguments { seed, count, program }) = arguments() else {
+    let Some(arguments) = arguments() else {
         eprintln!("{USAGE}");
         return ExitCode::from(2);
     };
-    let subjects = [
-        subject::run::<text::Text>,
-        subject::run::<markers::Markers>,
-        subject::run::<sound::Sound>,
-        subject::run::<checks::Checks>,
-    ];
-    let mut agreed = true;
-    for run in subjects {
-        match run(&program, seed, count) {
-            Ok(same) => agreed &= same,
-            Err(message) => {
-                eprintln!("differential: {message}");
-                return ExitCode::from(2);
-            }
+    match run(&arguments) {
+        Ok(agreed) => ExitCode::from(u8::from(!agreed)),
+        Err(message) => {
+            eprintln!("differential: {message}");
+            ExitCode::from(2)
         }
     }
-    ExitCode::from(u8::from(!agreed))
+}
+
+/// True if all agreed, or if nothing was to be compared.
+fn run(Arguments { seed, count, subject, record, program }: &Arguments) -> Result<bool, String> {
+    if let Some(file) = record {
+        builds::record::record(program, *seed, *count, file)?;
+        return Ok(true);
+    }
+    let mut agreed = true;
+    for (name, run) in SUBJECTS {
+        if subject.as_deref().is_none_or(|subject| subject == name) {
+            agreed &= run(program, *seed, *count)?;
+        }
+    }
+    Ok(agreed)
 }
 
 /// Bytes as hexadecimal digits, `.` if there are none.

@@ -47,6 +47,11 @@ impl Answer {
         refusal.ok_or_else(|| format!("case {} has no answer of this kind: {line:?}", self.name))
     }
 
+    /// The length of the whole file of an accepted build.
+    pub fn size(&self) -> Result<u64, String> {
+        self.part("accepted", |words| words.parse().ok())
+    }
+
     /// The length of the sound.
     pub fn sound(&self) -> Result<u64, String> {
         self.part("sound", |words| words.parse().ok())

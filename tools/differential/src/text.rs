@@ -44,7 +44,7 @@ fn extent(row: &Row) -> Extent {
 }
 
 /// Each element, and how often it stands there in a row.
-fn runs<T: PartialEq>(list: impl Iterator<Item = T>) -> impl Iterator<Item = (T, usize)> {
+pub fn runs<T: PartialEq>(list: impl Iterator<Item = T>) -> impl Iterator<Item = (T, usize)> {
     let mut list = list.peekable();
     std::iter::from_fn(move || {
         let first = list.next()?;

@@ -60,6 +60,7 @@ impl Counts {
             Part::Same(..) => "  both in one element",
             Part::AtOnce(_) => "all at once, put right from the lowest on",
             Part::Limit => "limits of 1",
+            Part::Named(_) => "other",
         };
         *self.fixed.entry(name).or_default() += 1;
         if let Part::Pair(a, b) | Part::Left(a, b) | Part::Turned(a, b) | Part::Same(a, b) = part {
@@ -128,8 +129,12 @@ impl fmt::Display for Counts {
             "  both in one element",
             "all at once, put right from the lowest on",
             "limits of 1",
+            "other",
         ] {
-            writeln!(f, "  {name:42}{:>10}", self.fixed.get(name).copied().unwrap_or_default())?;
+            let count = self.fixed.get(name).copied().unwrap_or_default();
+            if count > 0 {
+                writeln!(f, "  {name:42}{count:>10}")?;
+            }
         }
         self.pairs(f, "pairs of refusals that the original shows", |a, b| shown(a) && shown(b))?;
         self.pairs(f, "pairs with 1, 2, 3, 6 or 8, which it does not", |a, b| !(shown(a) && shown(b)))

@@ -17,12 +17,12 @@ use crate::text::draw_values;
 const MOST_POSITIONS: u32 = 400;
 
 /// What the faults ask of the build that they are put into.
-struct Wishes {
-    dst: bool,
-    edited_master: bool,
-    unspecified: bool,
-    info: bool,
-    custom: bool,
+pub struct Wishes {
+    pub dst: bool,
+    pub edited_master: bool,
+    pub unspecified: bool,
+    pub info: bool,
+    pub custom: bool,
 }
 
 fn draw_faults(random: &mut Random) -> Vec<Fault> {
@@ -80,7 +80,7 @@ pub fn draw(random: &mut Random) -> Case {
 }
 
 /// An accepted build.
-fn good(random: &mut Random, wishes: &Wishes) -> Case {
+pub fn good(random: &mut Random, wishes: &Wishes) -> Case {
     let mut of = of::draw(random);
     // Here an empty title has to be inside the pool.
     for track in &mut of.tracks {
@@ -114,7 +114,7 @@ fn good(random: &mut Random, wishes: &Wishes) -> Case {
         local_count: 5,
         comments: Vec::new(),
         callers,
-        lengths: Lengths { more: 0, place: random.between(0, 20), value: USUAL },
+        lengths: Lengths { more: 0, place: random.between(0, 20), value: USUAL, usual: vec![USUAL] },
         beyond: Vec::new(),
         fixed: None,
     };

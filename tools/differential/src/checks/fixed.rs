@@ -34,6 +34,8 @@ pub enum Part {
     AtOnce(u32),
     /// A limit of 1.
     Limit,
+    /// What this says.
+    Named(&'static str),
 }
 
 impl Fixed {
@@ -45,6 +47,7 @@ impl Fixed {
             Part::Same(a, b) => format!("{a} and {b} in one element"),
             Part::AtOnce(first) => format!("all at once from {first} on"),
             Part::Limit => "a limit".into(),
+            Part::Named(name) => name.into(),
         }
     }
 }
@@ -74,9 +77,9 @@ const BY_ELEMENT: [(u32, u32); 6] = [(4, 5), (26, 27), (32, 33), (34, 35), (34, 
 
 /// What else decides what a case can be at fault in.
 #[derive(Clone, Copy)]
-struct Context {
-    dst: bool,
-    edited_master: bool,
+pub struct Context {
+    pub dst: bool,
+    pub edited_master: bool,
 }
 
 const CONTEXTS: [Context; 4] = [
@@ -95,7 +98,7 @@ enum Form {
 }
 
 /// Stereo, one position, and the original's defaults; an edited master has one track.
-fn plain(Context { dst, edited_master }: Context) -> Case {
+pub fn plain(Context { dst, edited_master }: Context) -> Case {
     let start = Start { given: false, frame: 0 };
     let numbers = ChannelNumbers { given: false, count: 0, numbers: [0; 6] };
     let properties = Properties {
@@ -155,7 +158,7 @@ fn plain(Context { dst, edited_master }: Context) -> Case {
         local_count: 5,
         comments: Vec::new(),
         callers: Vec::new(),
-        lengths: Lengths { more: 0, place: 0, value: USUAL },
+        lengths: Lengths { more: 0, place: 0, value: USUAL, usual: vec![USUAL] },
         beyond: Vec::new(),
         fixed: None,
     };
@@ -165,23 +168,23 @@ fn plain(Context { dst, edited_master }: Context) -> Case {
     case
 }
 
-fn track(start: u32, duration: u32) -> TrackOf {
+pub fn track(start: u32, duration: u32) -> TrackOf {
     TrackOf { start, duration, title: Extent::default(), untitled: false }
 }
 
-fn comments(month: u32, [kind, reference]: [u32; 2], count: u32) -> Comments {
+pub fn comments(month: u32, [kind, reference]: [u32; 2], count: u32) -> Comments {
     Comments { date: [0, month, 0, 0, 0], kind, reference, text: vec![0x41], count }
 }
 
 /// The one byte of the byte pool, which no text has, and none.
 const BAD: Extent = Extent { start: 0, length: 1 };
-const NONE: Extent = Extent { start: 0, length: 0 };
+pub const NONE: Extent = Extent { start: 0, length: 0 };
 
-fn marker(frame: u32, text: Extent) -> MarkerOf {
+pub fn marker(frame: u32, text: Extent) -> MarkerOf {
     MarkerOf { frame, kind: INDEX, flags: 0, text }
 }
 
-fn caller(name: &[u8; 4]) -> Caller {
+pub fn caller(name: &[u8; 4]) -> Caller {
     Caller { name: *name, data: Vec::new() }
 }
 

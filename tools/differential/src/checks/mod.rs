@@ -1,10 +1,10 @@
 //! Checks: the verdict on a build's inputs.
 
-mod counts;
-mod draw;
+pub mod counts;
+pub mod draw;
 mod faults;
-mod fixed;
-mod simplify;
+pub mod fixed;
+pub mod simplify;
 
 use library::checks::{self as ours, Build, Lent, Verdict};
 use library::checks::{ARTIST_TITLE, LOW_BYTES, LOW_HALVES, OFF, ON, SWITCHES, UNSET};
@@ -19,7 +19,7 @@ use crate::markers::{self, meant, order};
 use crate::original::Answer;
 use crate::random::Random;
 use crate::subject::{Disagreement, Fails, Halt, Subject};
-use crate::text::utf8;
+use crate::text::{runs, utf8};
 
 pub struct Checks;
 
@@ -28,53 +28,55 @@ pub struct Checks;
 pub struct Case {
     /// What PROP and DIIN tell, tracks, markers and pools. Where DIIN stands is not read; `buffers` decides what words are
     /// like where several mean the same.
-    of: markers::Case,
-    edited_master: bool,
+    pub of: markers::Case,
+    pub edited_master: bool,
     /// The replacement under D2, which is tested though nothing uses it.
-    idle: Option<u8>,
-    dst_crc: bool,
-    dst_index: bool,
-    frame_data: bool,
-    local_order: [u8; 5],
-    local_count: u32,
-    comments: Vec<Comments>,
-    callers: Vec<Caller>,
-    lengths: Lengths,
+    pub idle: Option<u8>,
+    pub dst_crc: bool,
+    pub dst_index: bool,
+    pub frame_data: bool,
+    pub local_order: [u8; 5],
+    pub local_count: u32,
+    pub comments: Vec<Comments>,
+    pub callers: Vec<Caller>,
+    pub lengths: Lengths,
     /// What only one side is told.
-    beyond: Vec<Beyond>,
+    pub beyond: Vec<Beyond>,
     /// Of a fixed case, what it is for.
-    fixed: Option<Fixed>,
+    pub fixed: Option<Fixed>,
 }
 
 /// So many comments of a kind, one after the other.
 #[derive(Clone, Debug, PartialEq)]
-struct Comments {
-    date: [u32; 5],
-    kind: u32,
-    reference: u32,
-    text: Vec<u32>,
-    count: u32,
+pub struct Comments {
+    pub date: [u32; 5],
+    pub kind: u32,
+    pub reference: u32,
+    pub text: Vec<u32>,
+    pub count: u32,
 }
 
 #[derive(Clone, Debug, PartialEq)]
-struct Caller {
-    name: [u8; 4],
-    data: Vec<u8>,
+pub struct Caller {
+    pub name: [u8; 4],
+    pub data: Vec<u8>,
 }
 
-/// The lengths of DST frames: as many as the range has positions and so many more, all of them `USUAL` but for one.
-#[derive(Clone, Copy, Debug, PartialEq)]
-struct Lengths {
-    more: i32,
-    place: u32,
-    value: u32,
+/// The lengths of DST frames: as many as the range has positions and so many more, the usual ones in turn but for one.
+#[derive(Clone, Debug, PartialEq)]
+pub struct Lengths {
+    pub more: i32,
+    pub place: u32,
+    pub value: u32,
+    /// Not empty.
+    pub usual: Vec<u32>,
 }
 
-const USUAL: u32 = 3;
+pub const USUAL: u32 = 3;
 
 /// What only one side is told, since the other has no words for it.
 #[derive(Clone, Copy, Debug, PartialEq)]
-enum Beyond {
+pub enum Beyond {
     /// The original is told the source track 0.
     TrackZero,
     /// We are told an extent that ends one element outside its pool.
@@ -96,7 +98,7 @@ enum Beyond {
 }
 
 #[derive(Clone, Copy, Debug, PartialEq)]
-enum Place {
+pub enum Place {
     Tag(usize),
     Emid,
     Track,
@@ -146,7 +148,7 @@ impl Beyond {
 }
 
 /// The layout that channels and configuration make.
-fn layout_of(channels: u8, config: u8) -> u8 {
+pub fn layout_of(channels: u8, config: u8) -> u8 {
     let named = LAYOUTS.iter().position(|&layout| layout == (channels, config % 8));
     named.map_or(UNSPECIFIED, |place| place as u8)
 }
@@ -162,11 +164,11 @@ fn short_hex(bytes: &[u8]) -> String {
 }
 
 impl Case {
-    fn positions(&self) -> u32 {
+    pub fn positions(&self) -> u32 {
         self.of.info.end.saturating_sub(self.of.info.first)
     }
 
-    fn d2(&self) -> bool {
+    pub fn d2(&self) -> bool {
         self.of.info.conversion.rule >= D2
     }
 
@@ -178,11 +180,15 @@ impl Case {
         }
     }
 
-    /// How many lengths there are, the place of the unusual one and its value.
-    fn lengths(&self) -> (u32, u32, u32) {
-        let Lengths { more, place, value } = self.lengths;
-        let count = self.positions().saturating_add_signed(more);
-        (count, place.min(count.saturating_sub(1)), value)
+    /// The lengths of a DST build.
+    fn lengths(&self) -> Vec<u32> {
+        let Lengths { more, place, value, ref usual } = self.lengths;
+        let count = self.positions().saturating_add_signed(more) as usize;
+        let mut lengths: Vec<u32> = usual.iter().copied().cycle().take(count).collect();
+        if let Some(last) = count.checked_sub(1) {
+            lengths[last.min(place as usize)] = value;
+        }
+        lengths
     }
 
     /// Refusals of ours that the original does not have, though it is told the same.
@@ -218,6 +224,17 @@ impl Case {
         }
     }
 
+    /// Of a fixed case, whether the answers are not those that it was made for.
+    pub fn made_for(&self, ours: Verdict, original: Verdict) -> Option<Disagreement> {
+        let fixed = self.fixed?;
+        let same = [ours.number, original.number] == [fixed.ours, fixed.original];
+        (!same).then(|| Disagreement {
+            what: format!("{}: not as it was made for", fixed.told()),
+            expected: format!("made for: ours {}, the original {}", fixed.ours, fixed.original),
+            ours: format!("ours {}, the original {}", ours.number, original.number),
+        })
+    }
+
     fn build(&self) -> Build {
         let mut properties = self.of.properties;
         for beyond in &self.beyond {
@@ -246,7 +263,7 @@ impl Case {
     }
 
     /// What the library is given.
-    fn inputs(&self) -> Inputs {
+    pub fn inputs(&self) -> Inputs {
         let of = &self.of;
         let mut inputs = Inputs {
             words: self.build().words().to_vec(),
@@ -266,11 +283,7 @@ impl Case {
             inputs.raw.extend(data);
         }
         if of.properties.dst {
-            let (count, place, value) = self.lengths();
-            inputs.lengths = vec![USUAL; count as usize];
-            if let Some(length) = inputs.lengths.get_mut(place as usize) {
-                *length = value;
-            }
+            inputs.lengths = self.lengths();
         }
         for beyond in &self.beyond {
             inputs.add(*beyond);
@@ -282,15 +295,16 @@ impl Case {
     }
 }
 
-struct Inputs {
-    words: Vec<u32>,
-    pool: Vec<u32>,
-    raw: Vec<u8>,
-    tracks: Vec<u32>,
-    markers: Vec<u32>,
-    comments: Vec<u32>,
-    callers: Vec<u32>,
-    lengths: Vec<u32>,
+/// What the library is given, rows one after the other.
+pub struct Inputs {
+    pub words: Vec<u32>,
+    pub pool: Vec<u32>,
+    pub raw: Vec<u8>,
+    pub tracks: Vec<u32>,
+    pub markers: Vec<u32>,
+    pub comments: Vec<u32>,
+    pub callers: Vec<u32>,
+    pub lengths: Vec<u32>,
 }
 
 impl Inputs {
@@ -379,8 +393,8 @@ impl Inputs {
         }
     }
 
-    fn verdict(&self) -> Verdict {
-        let lent = Lent {
+    pub fn lent(&self) -> Lent<'_> {
+        Lent {
             pool: &self.pool,
             raw: &self.raw,
             tracks: &self.tracks,
@@ -388,14 +402,13 @@ impl Inputs {
             comments: &self.comments,
             callers: &self.callers,
             lengths: &self.lengths,
-        };
-        ours::verdict(&self.words, lent)
+        }
     }
 }
 
 /// What our verdict should be.
 #[derive(Clone, Copy, PartialEq)]
-enum Wanted {
+pub enum Wanted {
     Only(Verdict),
     /// Accepted, or a refusal after this number.
     After(u32),
@@ -417,7 +430,7 @@ impl Wanted {
     }
 }
 
-fn told(Verdict { number, detail }: Verdict) -> String {
+pub fn told(Verdict { number, detail }: Verdict) -> String {
     match number {
         0 if detail == 0 => "accepted".into(),
         _ => format!("refused {number} {detail}"),
@@ -425,7 +438,7 @@ fn told(Verdict { number, detail }: Verdict) -> String {
 }
 
 /// Our verdict, from the original's and from what the case has that the original does not look at.
-fn wanted(case: &Case, original: Verdict) -> Wanted {
+pub fn wanted(case: &Case, original: Verdict) -> Wanted {
     let over = case.over().map(|(_, number)| (number, number));
     let first = case.beyond.iter().filter_map(|beyond| beyond.refusal()).chain(over).min();
     match first {
@@ -483,9 +496,10 @@ impl Subject for Checks {
         for Caller { name, data } in &case.callers {
             lines.push(format!("caller {} {}", hex(name), short_hex(data)));
         }
-        let (count, place, value) = case.lengths();
-        if case.of.properties.dst && count > 0 {
-            lines.push(format!("lengths {USUAL}x{place},{value},{USUAL}x{}", count - 1 - place));
+        let lengths = if case.of.properties.dst { case.lengths() } else { Vec::new() };
+        if !lengths.is_empty() {
+            let lengths = runs(lengths.into_iter()).map(|(length, count)| format!("{length}x{count}"));
+            lines.push(format!("lengths {}", lengths.collect::<Vec<_>>().join(",")));
         }
         lines.push(String::new());
         lines.join("\n")
@@ -500,7 +514,8 @@ impl Subject for Checks {
             case.callers.iter().map(|caller| format!("caller {} {}", hex(&caller.name), short_hex(&caller.data))),
         );
         if case.of.properties.dst {
-            lines.push(format!("(count, place of the unusual one, its value) of the lengths: {:?}", case.lengths()));
+            let lengths = runs(case.lengths().into_iter()).map(|(length, count)| format!("{count} of {length}"));
+            lines.push(format!("lengths: {}", lengths.collect::<Vec<_>>().join(", ")));
         }
         lines.extend(case.beyond.iter().map(|beyond| format!("told to one side only: {beyond:?}")));
         lines.join("\n")
@@ -509,7 +524,8 @@ impl Subject for Checks {
     fn compare(case: &Case, answer: &Answer, counts: &mut Counts) -> Result<Vec<Disagreement>, String> {
         let [number, detail] = answer.refusal()?;
         let original = Verdict { number, detail };
-        let ours = case.inputs().verdict();
+        let inputs = case.inputs();
+        let ours = ours::verdict(&inputs.words, inputs.lent());
         let wanted = wanted(case, original);
         let mut found = Vec::new();
         if !wanted.is(ours) {
@@ -519,15 +535,7 @@ impl Subject for Checks {
                 ours: format!("ours: {}", told(ours)),
             });
         }
-        if let Some(fixed) = case.fixed {
-            if [ours.number, original.number] != [fixed.ours, fixed.original] {
-                found.push(Disagreement {
-                    what: format!("{}: not as it was made for", fixed.told()),
-                    expected: format!("made for: ours {}, the original {}", fixed.ours, fixed.original),
-                    ours: format!("ours {}, the original {}", ours.number, original.number),
-                });
-            }
-        }
+        found.extend(case.made_for(ours, original));
         counts.count(case, ours, original, found.is_empty());
         Ok(found)
     }

@@ -48,6 +48,8 @@ pub fn simplify(case: &mut Case, fails: Fails<'_, Case>) -> Result<(), Halt> {
     }
     keep(case, fails, |case| (case.lengths.more, case.lengths.place, case.lengths.value) = (0, 0, USUAL))?;
     keep(case, fails, |case| case.lengths.place = 0)?;
+    keep(case, fails, |case| case.lengths.usual = vec![USUAL])?;
+    keep(case, fails, |case| case.lengths.usual.truncate(1))?;
     let stereo = |case: &mut Case| {
         case.of.config = 0;
         (case.of.properties.channels, case.of.properties.layout) = (2, layout_of(2, 0));

@@ -1,5 +1,5 @@
 -- `verdict::jangqeruz_verdict` meets its contract. Assumes nothing.
-use Rattle.abi.specs.Verdict.{inputsOf}
+use Rattle.words.specs.Inputs.{inputsOf}
 use Rattle.abi.proofs.verdict.jangqeruz_verdict.Statement.{statement}
 use Rattle.abi.proofs.verdict.jangqeruz_verdict.Tie as tie
 

@@ -1,0 +1,14 @@
+-- `text::text` meets its contract. Assumes nothing.
+use Rattle.meanings.proofs.text.text.Statement.{statement}
+use Rattle.meanings.proofs.text.text.Tie as tie
+
+returns : tie.Need-returns
+returns c = rw (c .if1 .taken)
+
+returns-2 : tie.Need-returns-2
+returns-2 c = rw (c .if1 .left)
+
+pub text-spec : {M : Type 1} → statement M
+text-spec =
+    tie.close
+    (tie.spec returns returns-2)
