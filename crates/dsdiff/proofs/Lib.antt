@@ -1,3 +1,5 @@
 pub mod BuildLaws
+pub mod TableLaws
+pub mod Zeros
 pub mod WholeLaws
 pub mod StarredFigures

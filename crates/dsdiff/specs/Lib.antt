@@ -1,3 +1,5 @@
 pub mod Answer
 pub mod Build
 pub mod Within
+pub mod Marker
+pub mod Table
