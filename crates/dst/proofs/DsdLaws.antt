@@ -3,8 +3,8 @@ use mathlib.Core.Path.{_≡_, refl, sym, ap, _∙_}
 use mathlib.Core.Logic.{_⊎_, inl, inr, ⊎-elim}
 use mathlib.Core.Bool.{true, cond}
 use mathlib.Core.List.{List, [], _∷_, _++_, map, flatMap, map-append}
-use Prim.Native.Nat.{ℕ, zero, suc, _+_, _*_, _-_, _/_, _%_, _^_, _≤_, _<_}
-use native.Mathlib.Nat.{mul-zero, zero-mul, mul-suc, mul-add, add-comm, mul-le-mul-left, mul-le-mul-right, div-add-mod, mod-lt, not-suc-le-zero}
+use Prim.Native.Nat.{ℕ, zero, suc, _+_, _*_, _-_, _/_, _%_, _≤_, _<_}
+use native.Mathlib.Nat.{mul-zero, zero-mul, mul-suc, mul-add, add-comm, mul-le-mul-left, div-add-mod, mod-lt, not-suc-le-zero}
 use native.Mathlib.Numerals.{add-one}
 use native.Mathlib.Omega.{arith}
 use lib.Dec.{ltb}
@@ -226,10 +226,3 @@ module _ (f n : ℕ) (contents : List ℕ) (w : Window) (out : List ℕ) where
       part-filled (λ (c : List ℕ). c) (contentsWith f wanted n contents) (replicate n f) (with-sizes f wanted n contents (k .0) (k .1) given) w out
       (frames-touched f n (w .skip) (length out - w .at)) {last = last} {v = v} n (length-replicate n f)
       (rw (with-rows f wanted n contents (k .0) (k .1) given, rows-joined f (number wanted) contents (sym given)) q)
-
--- every place of the sound is a number of 63 bits
-pub sound-short : (channels n : ℕ) → channels < 2 ^ 8 → n < 2 ^ 32 → frameBytes channels * n < 2 ^ 63
-unfolding frameBytes
-sound-short channels n h k =
-    let m : 4704 * channels * n ≤ 1199520 * n = mul-le-mul-right n (omega arith) in
-    omega arith

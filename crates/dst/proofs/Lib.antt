@@ -1,3 +1,4 @@
+pub mod FrameLaws
 pub mod StartLaws
 pub mod PlaceLaws
 pub mod PositionsLaws

@@ -10,7 +10,8 @@ use borrow.Author.Tests.{eq-eqb, ne-eqb}
 use borrow.Author.Needs.{needs}
 use Rattle.dst.specs.Positions.{positions, number}
 use Rattle.dst.specs.Frame.{frameBytes}
-use Rattle.dst.proofs.DsdLaws.{sound-short, wanted-known, filled-contents}
+use Rattle.dst.proofs.FrameLaws.{sound-short}
+use Rattle.dst.proofs.DsdLaws.{wanted-known, filled-contents}
 use Rattle.dst.proofs.PlaceLaws.{inside, byte-at}
 use Rattle.dst.proofs.dsd_data.fill.Statement.{statement}
 use Rattle.dst.proofs.dsd_data.fill.Tie as tie

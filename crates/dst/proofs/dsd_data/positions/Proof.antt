@@ -1,6 +1,6 @@
 -- `dsd_data::positions` meets its contract. Assumes nothing.
 use lib.ListN.{replicate}
-use Rattle.dst.proofs.DsdLaws.{sound-short}
+use Rattle.dst.proofs.FrameLaws.{sound-short}
 use Rattle.dst.proofs.PlaceLaws.{inside, byte-at}
 use Rattle.dst.proofs.dsd_data.positions.Statement.{statement}
 use Rattle.dst.proofs.dsd_data.positions.Tie as tie

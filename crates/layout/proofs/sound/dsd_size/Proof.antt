@@ -2,7 +2,7 @@
 use native.Mathlib.Nat.{mul-comm}
 use native.Mathlib.Omega.{arith}
 use borrow.Author.Needs.{needs}
-use Rattle.dst.proofs.DsdLaws.{sound-short}
+use Rattle.dst.proofs.FrameLaws.{sound-short}
 use Rattle.layout.proofs.sound.dsd_size.Statement.{statement}
 use Rattle.layout.proofs.sound.dsd_size.Tie as tie
 
