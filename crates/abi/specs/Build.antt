@@ -5,8 +5,8 @@ use Prim.Native.Nat.{ℕ}
 use Rattle.chunk.specs.Append.{overlay}
 use Rattle.checks.specs.Inputs.{Inputs}
 use Rattle.layout.specs.File.{headerOf, trailerOf}
-use Rattle.dsdiff.specs.Answer.{numberOf, valuesOf}
-use Rattle.dsdiff.specs.Build.{buildVerdict, answerOf, bufferOf}
+use Rattle.assemble.specs.Answer.{numberOf, valuesOf}
+use Rattle.assemble.specs.Build.{buildVerdict, answerOf, bufferOf}
 
 -- of buffers h and t for header and trailer, and a for the values, as many as it has room for
 pub record Exported (x : Inputs) (h h′ t t′ a a′ : List ℕ) (n : ℕ) : Type 0 where

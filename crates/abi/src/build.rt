@@ -41,7 +41,7 @@ pub extern "C" fn jangqeruz_build(
     ensures { λ r. ⌜ Exported (inputsOf (now (words .entry)) (now (pool .entry)) (now (raw .entry)) (now (tracks .entry)) (now (markers .entry)) (now (comments .entry)) (now (callers .entry)) (now (lengths .entry)))
         (now (header .entry)) (now (header .exit)) (now (trailer .entry)) (now (trailer .exit)) (now (answer .entry)) (now (answer .exit)) r ⌝ }
 {
-    let a = dsdiff::build::build_rows(
+    let a = assemble::build::build_rows(
         words::inputs::area_of(words),
         words::inputs::options_of(words),
         words::orders::property_order(words),

@@ -1,4 +1,3 @@
-pub mod BuildLaws
 pub mod TableLaws
 pub mod Zeros
 pub mod WholeLaws

@@ -18,9 +18,9 @@ use Rattle.markers.specs.declared.marker.MarkerKind.the-variants.{Index}
 use Rattle.checks.specs.declared.options.Options.{Options}
 use Rattle.checks.specs.Limits.{anyTooLarge, limitFaults, mostMarkers, longestText}
 use Rattle.checks.specs.Inputs.{Inputs, givenFaults, verdict}
-use Rattle.dsdiff.specs.declared.build.Answer.{Answer}
+use Rattle.assemble.specs.declared.build.Answer.{Answer}
 use Rattle.dsdiff.specs.declared.marker.Marker.{Marker}
-use Rattle.dsdiff.specs.Build.{Builds}
+use Rattle.assemble.specs.Build.{Builds}
 use Rattle.dsdiff.specs.Marker.{rowOf, rowsOf, lookedAt}
 use Rattle.dsdiff.specs.Table.{rowAt, stored, filled}
 

@@ -24,9 +24,9 @@ use Rattle.layout.proofs.FileLaws.{file-bytes, length-header}
 use Rattle.layout.proofs.SoundLaws.{length-soundBytes}
 use Rattle.layout.proofs.SizeLaws.{lengths-few, sound-once, sound-low}
 use Rattle.layout.proofs.IndexLaws.{index-leads}
-use Rattle.dsdiff.specs.declared.build.Answer.{Answer}
-use Rattle.dsdiff.specs.declared.build.Answer.the-variants.{Built}
-use Rattle.dsdiff.specs.Build.{buildVerdict, Outcome, Builds}
+use Rattle.assemble.specs.declared.build.Answer.{Answer}
+use Rattle.assemble.specs.declared.build.Answer.the-variants.{Built}
+use Rattle.assemble.specs.Build.{buildVerdict, Outcome, Builds}
 
 -- a build that answers lengths was accepted, and its buffers begin with header and trailer
 record Made (x : Inputs) (h′ t′ : List ℕ) (a c : ℕ) : Type 0 where

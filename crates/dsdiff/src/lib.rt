@@ -1,3 +1,2 @@
 // Header and trailer of a DSDIFF file, from the inputs of a build.
-pub mod build;
 pub mod marker;

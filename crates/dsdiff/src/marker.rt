@@ -4,10 +4,10 @@ ghost use mathlib.Core.List.{List};
 ghost use Prim.Native.Nat.{_≤_};
 ghost use lib.ListN.{length, take};
 ghost use Rattle.dsdiff.specs.declared.marker.Marker.{Marker};
-ghost use Rattle.dsdiff.specs.Build.{inputsOf, Builds};
+ghost use Rattle.assemble.specs.Build.{inputsOf, Builds};
 ghost use Rattle.dsdiff.specs.Marker.{lookedAt};
 ghost use Rattle.dsdiff.specs.Table.{noRows, stored, filled};
-use crate::build::Answer;
+use assemble::build::Answer;
 use checks::area::Area;
 use checks::options::Options;
 use chunk::names::InfoChunk;
@@ -78,7 +78,7 @@ fn build_part(
     ensures { λ r. ⌜ Builds (inputsOf area options «property_order» «info_order» «local_order» «local_count» (now (pool .entry)) (now (raw .entry)) (now (tracks .entry)) (take end (now (table .entry))) (now (comments .entry)) (now (callers .entry)) (now (lengths .entry)))
         (now (header .entry)) (now (header .exit)) (now (trailer .entry)) (now (trailer .exit)) r ⌝ }
 {
-    crate::build::build_rows(
+    assemble::build::build_rows(
         area,
         options,
         property_order,

@@ -64,15 +64,15 @@ use Rattle.checks.proofs.area.Area as Ar
 use Rattle.checks.proofs.area.Area.Laws as Ar′
 use Rattle.checks.proofs.options.Options as Op
 use Rattle.checks.proofs.options.Options.Laws as Op′
-use Rattle.dsdiff.specs.declared.build.Answer.{Answer}
+use Rattle.assemble.specs.declared.build.Answer.{Answer}
 use Rattle.dsdiff.specs.declared.marker.Marker.{Marker}
-use Rattle.dsdiff.specs.Build.{inputsOf, Builds}
+use Rattle.assemble.specs.Build.{inputsOf, Builds}
 use Rattle.dsdiff.specs.Marker.{lookedAt}
 use Rattle.dsdiff.specs.Table.{noRows, filled}
 use Rattle.dsdiff.proofs.Zeros.{zeros, made, made-typed, rep-made, made-in}
 use Rattle.dsdiff.proofs.marker.Marker as T
-use Rattle.dsdiff.proofs.build.Answer as S
-use Rattle.dsdiff.proofs.build.Answer.Laws as S′
+use Rattle.assemble.proofs.build.Answer as S
+use Rattle.assemble.proofs.build.Answer.Laws as S′
 use Rattle.dsdiff.proofs.marker.unpack as unpack
 use Rattle.dsdiff.proofs.marker.unpack.Symbol as unpack-def
 use Rattle.dsdiff.proofs.marker.unpack.Symbol.{name as #dsdiff·marker·unpack}

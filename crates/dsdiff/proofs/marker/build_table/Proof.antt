@@ -8,9 +8,9 @@ use borrow.Author.Needs.{needs}
 use lib.Dec.{lit≤}
 use lib.ListN.{take}
 use Rattle.checks.specs.Inputs.{Inputs}
-use Rattle.dsdiff.specs.Build.{inputsOf}
+use Rattle.assemble.specs.Build.{inputsOf}
 use Rattle.dsdiff.specs.Marker.{lookedAt}
-use Rattle.dsdiff.proofs.BuildLaws.{refused}
+use Rattle.assemble.proofs.BuildLaws.{refused}
 use Rattle.dsdiff.proofs.TableLaws.{looked, looked-none, by-rows, many-refused}
 use Rattle.dsdiff.proofs.marker.build_table.Statement.{statement}
 use Rattle.dsdiff.proofs.marker.build_table.Tie as tie

@@ -1,8 +1,8 @@
 -- What a build answers, by 01's numbers. Assumes nothing.
 use Prim.Native.Nat.{ℕ}
 use mathlib.Core.List.{List, [], _∷_}
-use Rattle.dsdiff.specs.declared.build.Answer.{Answer}
-use Rattle.dsdiff.specs.declared.build.Answer.the-variants.{Built, Refused}
+use Rattle.assemble.specs.declared.build.Answer.{Answer}
+use Rattle.assemble.specs.declared.build.Answer.the-variants.{Built, Refused}
 
 -- 01's number of an answer; 0 stands for built
 abbrev pub numberOf : Answer → ℕ

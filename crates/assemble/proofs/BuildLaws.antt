@@ -16,11 +16,11 @@ use Rattle.checks.specs.Inputs.{Inputs, verdict}
 use Rattle.layout.specs.File.{frontOf, backOf, place, soundLength, formSize, headerOf, trailerOf, Ordered}
 use Rattle.layout.proofs.FileLaws.{length-front, length-back, length-header}
 use Rattle.layout.proofs.SizeLaws.{front-low, back-low, sound-low}
-use Rattle.dsdiff.specs.declared.build.Answer.{Answer}
-use Rattle.dsdiff.specs.declared.build.Answer.the-variants as answer
-use Rattle.dsdiff.specs.declared.build.Lengths.{Lengths}
-use Rattle.dsdiff.specs.Build.{roomFault, buildVerdict, Outcome}
-use Rattle.dsdiff.specs.Within.{Measured, Filled}
+use Rattle.assemble.specs.declared.build.Answer.{Answer}
+use Rattle.assemble.specs.declared.build.Answer.the-variants as answer
+use Rattle.assemble.specs.declared.build.Lengths.{Lengths}
+use Rattle.assemble.specs.Build.{roomFault, buildVerdict, Outcome}
+use Rattle.assemble.specs.Within.{Measured, Filled}
 
 -- where there is room, what is laid over the front stands before the rest
 laid : (xs bs : List ℕ) → length bs ≤ length xs → overlay xs 0 bs ≡ bs ++ drop (length bs) xs

@@ -15,8 +15,8 @@ use Rattle.checks.specs.declared.area.Area.{Area}
 use Rattle.checks.specs.declared.options.Options.{Options}
 use Rattle.checks.specs.Inputs.{Inputs, verdict}
 use Rattle.layout.specs.File.{soundLength, headerOf, trailerOf, Ordered}
-use Rattle.dsdiff.specs.declared.build.Answer.{Answer}
-use Rattle.dsdiff.specs.declared.build.Answer.the-variants as answer
+use Rattle.assemble.specs.declared.build.Answer.{Answer}
+use Rattle.assemble.specs.declared.build.Answer.the-variants as answer
 
 -- all that a build is given but its buffers
 abbrev pub inputsOf : Area → Options → List PropertyChunk → List InfoChunk → List LocalChunk → ℕ → List ℕ → List ℕ → List ℕ → List ℕ → List ℕ → List ℕ → List ℕ → Inputs

@@ -1,7 +1,7 @@
 -- `build::Answer::values` meets its contract. Assumes nothing.
 use borrow.Author.Needs.{needs}
-use Rattle.dsdiff.proofs.build.Answer.values.Statement.{statement}
-use Rattle.dsdiff.proofs.build.Answer.values.Tie as tie
+use Rattle.assemble.proofs.build.Answer.values.Statement.{statement}
+use Rattle.assemble.proofs.build.Answer.values.Tie as tie
 
 returns : tie.Need-returns
 returns c = rw (c .before .self .given .1)

@@ -8,7 +8,7 @@ use Rattle.chunk.specs.Number.{be}
 use Rattle.chunk.specs.Name.{ascii}
 use Rattle.checks.specs.Inputs.{Inputs}
 use Rattle.layout.specs.File.{frontOf, backOf, Ordered}
-use Rattle.dsdiff.specs.declared.build.Lengths.{Lengths}
+use Rattle.assemble.specs.declared.build.Lengths.{Lengths}
 
 -- the lengths of FRM8's data before the sound, and of the trailer, at most the largest usize
 pub record Measured (x : Inputs) (r : Lengths) : Type 0 where

@@ -1,8 +1,8 @@
 -- `build::fill` meets its contract. Assumes nothing.
 use Rattle.chunk.proofs.AppendLaws.{_then_}
 use borrow.Author.Needs.{needs}
-use Rattle.dsdiff.proofs.build.fill.Statement.{statement}
-use Rattle.dsdiff.proofs.build.fill.Tie as tie
+use Rattle.assemble.proofs.build.fill.Statement.{statement}
+use Rattle.assemble.proofs.build.fill.Tie as tie
 
 returns : tie.Need-returns
 returns c =

@@ -1,7 +1,7 @@
 -- `build::measure` meets its contract. Assumes nothing.
 use borrow.Author.Needs.{needs}
-use Rattle.dsdiff.proofs.build.measure.Statement.{statement}
-use Rattle.dsdiff.proofs.build.measure.Tie as tie
+use Rattle.assemble.proofs.build.measure.Statement.{statement}
+use Rattle.assemble.proofs.build.measure.Tie as tie
 
 returns : tie.Need-returns
 returns c =

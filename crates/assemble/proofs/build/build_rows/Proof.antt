@@ -1,9 +1,9 @@
 -- `build::build_rows` meets its contract. Assumes nothing.
 use mathlib.Core.Path.{sym, _∙_}
-use Rattle.dsdiff.proofs.BuildLaws.{refused, accepted}
+use Rattle.assemble.proofs.BuildLaws.{refused, accepted}
 use borrow.Author.Needs.{needs}
-use Rattle.dsdiff.proofs.build.build_rows.Statement.{statement}
-use Rattle.dsdiff.proofs.build.build_rows.Tie as tie
+use Rattle.assemble.proofs.build.build_rows.Statement.{statement}
+use Rattle.assemble.proofs.build.build_rows.Tie as tie
 
 returns : tie.Need-returns
 returns c =

@@ -1,10 +1,10 @@
 -- `build::lay_out` meets its contract. Assumes nothing.
 use native.Mathlib.Omega.{arith}
 use Rattle.layout.proofs.SizeLaws.{sound-low}
-use Rattle.dsdiff.proofs.BuildLaws.{front-fits, back-fits, header-long, trailer-long, header-filled, trailer-filled, short-header, short-trailer, sound-long, built}
+use Rattle.assemble.proofs.BuildLaws.{front-fits, back-fits, header-long, trailer-long, header-filled, trailer-filled, short-header, short-trailer, sound-long, built}
 use borrow.Author.Needs.{needs}
-use Rattle.dsdiff.proofs.build.lay_out.Statement.{statement}
-use Rattle.dsdiff.proofs.build.lay_out.Tie as tie
+use Rattle.assemble.proofs.build.lay_out.Statement.{statement}
+use Rattle.assemble.proofs.build.lay_out.Tie as tie
 
 add-base : tie.Need-add-base
 add-base c =
