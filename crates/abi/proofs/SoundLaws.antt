@@ -5,8 +5,9 @@ use mathlib.Core.List.{List}
 use Prim.Native.Nat.{ℕ, _+_, _-_, min}
 use native.Mathlib.Omega.{arith}
 use lib.ListN.{length}
-use Rattle.dst.specs.declared.lent.Fill.{Fill}
-use Rattle.dst.specs.Window.{shown, after, Filling}
+use Rattle.sound_reads.specs.declared.lent.Fill.{Fill}
+use Rattle.window.specs.Window.{shown, after}
+use Rattle.sound_reads.specs.Fill.{Filling}
 use Rattle.abi.specs.Sound.{countOf, Count}
 
 from-zero : (a o : ℕ) → 0 + min a (o - 0) ≡ min a o

@@ -5,8 +5,8 @@ use mathlib.Core.Bool.{Bool, cond}
 use mathlib.Core.List.{List}
 use lib.ListN.{length, drop}
 use Rattle.chunk.specs.Append.{overlay}
-use Rattle.dst.specs.declared.lent.Fill.{Fill}
-use Rattle.dst.specs.declared.lent.Fill.the-variants.{Filled, NotLent}
+use Rattle.sound_reads.specs.declared.lent.Fill.{Fill}
+use Rattle.sound_reads.specs.declared.lent.Fill.the-variants.{Filled, NotLent}
 
 -- the bytes that a read filled, or the largest usize
 abbrev pub countOf : Fill → ℕ

@@ -1,15 +1,15 @@
 // DIIN. What is written into `out` is what fits of it; the answer is the length of all of it.
 ghost use mathlib.Core.Path.{_≡_};
 ghost use Rattle.chunk.specs.Append.{Appended};
-ghost use Rattle.chunk.specs.Tree.{bytes};
-ghost use Rattle.markers.specs.Diin.{diin};
+ghost use Rattle.tree.specs.Tree.{bytes};
+ghost use Rattle.master_info.specs.Diin.{diin};
 ghost use Rattle.meanings.specs.Text.{optionsOf};
 ghost use Rattle.meanings.specs.Property.{startOf};
 ghost use Rattle.meanings.specs.Diin.{givenText, sourceOf, infoOrderOf};
 use chunk::Cursor;
-use markers::diin::Info;
-use markers::pick::ArtistTitle;
-use markers::program::ProgramOptions;
+use master_info::diin::Info;
+use master_info::pick::ArtistTitle;
+use tracks::order::ProgramOptions;
 
 // DIIN, its chunks in the order of these numbers. EMID and the texts of custom markers are bytes of `raw`, the other texts values of `pool`.
 #[no_mangle]
@@ -96,7 +96,7 @@ pub extern "C" fn jangqeruz_diin(
         },
     };
     let c = Cursor::new();
-    let end = markers::diin::diin(
+    let end = master_info::diin::diin(
         c,
         out,
         pool,

@@ -1,7 +1,7 @@
 // PROP. What is written into `out` is what fits of it; the answer is the length of all of it.
 ghost use mathlib.Core.Path.{_≡_};
 ghost use Rattle.chunk.specs.Append.{Appended};
-ghost use Rattle.chunk.specs.Tree.{bytes};
+ghost use Rattle.tree.specs.Tree.{bytes};
 ghost use Rattle.prop.specs.Property.{property};
 ghost use Rattle.meanings.specs.Property.{soundOf, layoutOf, startOf, propertyOrderOf};
 use chunk::Cursor;

@@ -4,7 +4,7 @@ ghost use Rattle.chunk.specs.Append.{Appended};
 ghost use Rattle.texts.specs.Extent.{part};
 ghost use Rattle.texts.specs.Text.{textBytes};
 ghost use Rattle.texts.specs.DiinText.{diinText};
-ghost use Rattle.texts.specs.Comment.{comt};
+ghost use Rattle.comt.specs.Comment.{comt};
 ghost use Rattle.meanings.specs.Text.{ruleOf, optionsOf, textOf};
 use chunk::Cursor;
 use texts::extent::Extent;
@@ -85,6 +85,6 @@ pub extern "C" fn jangqeruz_comt(
 {
     let options = meanings::text::options(rule_number, replacement, empty_text, text_pad_counted);
     let c = Cursor::new();
-    let end = texts::comt::comt(c, out, pool, rows, options);
+    let end = comt::comt::comt(c, out, pool, rows, options);
     end.at
 }

@@ -8,7 +8,7 @@ use borrow.Author.Tests.{lt-ltb, le-ltb}
 use lib.ListN.{length, drop}
 use Rattle.chunk.specs.Append.{overlay}
 use Rattle.chunk.specs.Number.{be}
-use Rattle.chunk.specs.Name.{ascii}
+use Rattle.chunk_names.specs.Name.{ascii}
 use Rattle.chunk.proofs.AppendLaws.{overlay-room}
 use Rattle.refusal.specs.declared.verdict.Verdict.{Verdict}
 use Rattle.refusal.specs.declared.verdict.Verdict.the-variants.{Accepted, Refused}

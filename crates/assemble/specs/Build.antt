@@ -5,14 +5,14 @@ use mathlib.Core.List.{List, [], _∷_, _++_}
 use Prim.Native.Nat.{ℕ}
 use lib.Dec.{ltb}
 use lib.ListN.{length, drop}
-use Rattle.chunk.specs.declared.names.PropertyChunk.{PropertyChunk}
-use Rattle.chunk.specs.declared.names.InfoChunk.{InfoChunk}
-use Rattle.chunk.specs.declared.names.LocalChunk.{LocalChunk}
+use Rattle.chunk_names.specs.declared.PropertyChunk.{PropertyChunk}
+use Rattle.chunk_names.specs.declared.InfoChunk.{InfoChunk}
+use Rattle.chunk_names.specs.declared.LocalChunk.{LocalChunk}
 use Rattle.refusal.specs.Verdict.{refuseIf, orElse, firstOf}
 use Rattle.refusal.specs.declared.verdict.Verdict.{Verdict}
 use Rattle.refusal.specs.declared.verdict.Verdict.the-variants.{Accepted, Refused}
-use Rattle.checks.specs.declared.area.Area.{Area}
-use Rattle.checks.specs.declared.options.Options.{Options}
+use Rattle.build_options.specs.declared.area.Area.{Area}
+use Rattle.build_options.specs.declared.options.Options.{Options}
 use Rattle.checks.specs.Inputs.{Inputs, verdict}
 use Rattle.layout.specs.File.{soundLength, headerOf, trailerOf, Ordered}
 use Rattle.assemble.specs.declared.build.Answer.{Answer}

@@ -5,7 +5,7 @@ use Prim.Native.Nat.{ℕ}
 use lib.ListN.{length}
 use Rattle.chunk.specs.Append.{overlay, moved}
 use Rattle.chunk.specs.Number.{be}
-use Rattle.chunk.specs.Name.{ascii}
+use Rattle.chunk_names.specs.Name.{ascii}
 use Rattle.checks.specs.Inputs.{Inputs}
 use Rattle.layout.specs.File.{frontOf, backOf, Ordered}
 use Rattle.assemble.specs.declared.build.Lengths.{Lengths}

@@ -4,19 +4,19 @@ ghost use mathlib.Core.List.{_++_};
 ghost use lib.ListN.{length};
 ghost use Rattle.chunk.specs.Append.{overlay, moved};
 ghost use Rattle.chunk.specs.Number.{be};
-ghost use Rattle.chunk.specs.Name.{ascii};
+ghost use Rattle.chunk_names.specs.Name.{ascii};
 ghost use Rattle.refusal.specs.declared.verdict.Verdict.the-variants.{Accepted};
 ghost use Rattle.checks.specs.Inputs.{verdict};
 ghost use Rattle.layout.specs.File.{frontOf, backOf};
 ghost use Rattle.assemble.specs.Answer.{numberOf, valuesOf};
 ghost use Rattle.assemble.specs.Build.{inputsOf, Builds, LaysOut};
 ghost use Rattle.assemble.specs.Within.{Measured, Filled};
-use checks::area::Area;
-use checks::options::Options;
+use build_options::area::Area;
+use build_options::options::Options;
 use chunk::Cursor;
-use chunk::names::InfoChunk;
-use chunk::names::LocalChunk;
-use chunk::names::PropertyChunk;
+use chunk_names::InfoChunk;
+use chunk_names::LocalChunk;
+use chunk_names::PropertyChunk;
 use refusal::verdict::Verdict;
 
 // What a build answers.

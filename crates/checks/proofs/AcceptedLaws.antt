@@ -7,31 +7,32 @@ use native.Mathlib.Omega.{arith}
 use lib.Dec.{eqb, ltb}
 use lib.ListN.{length, getD, take}
 use borrow.Author.Tests.{ltb-false, eqb-false}
-use Rattle.chunk.specs.declared.names.LocalChunk.the-variants.{Property, SoundData, DstIndex, EditedMasterInfo, Comments}
-use Rattle.texts.specs.Comment.{writtenComments, hasComt}
-use Rattle.markers.specs.Diin.{hasDiin}
-use Rattle.markers.specs.declared.diin.Info.{Info}
+use Rattle.chunk_names.specs.declared.LocalChunk.the-variants.{Property, SoundData, DstIndex, EditedMasterInfo, Comments}
+use Rattle.comt.specs.Comment.{writtenComments, hasComt}
+use Rattle.master_info.specs.Diin.{hasDiin}
+use Rattle.master_info.specs.declared.diin.Info.{Info}
 use Rattle.prop.specs.Layout.{channelCount}
 use Rattle.prop.specs.Start.{isGiven, startFrame}
 use Rattle.refusal.specs.Verdict.{orElse}
 use Rattle.refusal.specs.Below.{any}
-use Rattle.faults.specs.Extents.{tooLarge, outsidePool}
+use Rattle.rows.specs.Extents.{tooLarge, outsidePool}
 use Rattle.refusal.specs.Orders.{propertyRank, infoRank, localRank, times, eachOnce}
-use Rattle.faults.specs.Lengths.{lengthWrong, lengthsWrong}
-use Rattle.faults.specs.Comments.{commentFaults}
+use Rattle.rows.specs.Lengths.{lengthWrong, lengthsWrong}
+use Rattle.comment_faults.specs.Comments.{commentFaults}
 use Rattle.refusal.specs.declared.verdict.Verdict.{Verdict}
 use Rattle.refusal.specs.declared.verdict.Verdict.the-variants.{Accepted}
-use Rattle.faults.specs.declared.row.Row.the-variants.{Text, Caller, Track, Marker, Comment}
+use Rattle.rows.specs.declared.row.Row.the-variants.{Text, Caller, Track, Marker, Comment}
 use Rattle.refusal.proofs.VerdictLaws.{or-accepted, after, if-accepted, neither, inside, none-so}
-use Rattle.faults.proofs.RowFaultLaws.{RowsFit, rows-fit, not-not}
-use Rattle.faults.proofs.CommentFaultLaws.{few-written}
-use Rattle.checks.specs.Area.{positions, isDst, lengthsWanted, longestPlaytime, areaFault, lengthsFault, rangeFault, areaFaults}
-use Rattle.checks.specs.Options.{effective, textOptions, infoOf, tagRows, idRow}
-use Rattle.checks.specs.Limits.{longestText, longestCallerChunk, mostTracks, mostCallerChunks, mostMarkers, anyNumber, anyTooLarge, anyOutside, limitFaults}
-use Rattle.checks.specs.Master.{trackFaults}
-use Rattle.checks.specs.Property.{replacementWrong, numbersFault, lastFrameOfDay, startFault, propertyFaults}
-use Rattle.checks.specs.Info.{infoFaults}
-use Rattle.checks.specs.Local.{repeats, lacks, soundBeforeProp, lacksAny, localFaults}
+use Rattle.rows.proofs.RowFaultLaws.{RowsFit, rows-fit, not-not}
+use Rattle.comment_faults.proofs.CommentFaultLaws.{few-written}
+use Rattle.build_options.specs.Area.{positions, isDst}
+use Rattle.area_rules.specs.Area.{lengthsWanted, longestPlaytime, areaFault, lengthsFault, rangeFault, areaFaults}
+use Rattle.build_options.specs.Options.{effective, textOptions, infoOf, tagRows, idRow}
+use Rattle.rules.specs.Limits.{longestText, longestCallerChunk, mostTracks, mostCallerChunks, mostMarkers, anyNumber, anyTooLarge, anyOutside, limitFaults}
+use Rattle.area_rules.specs.Master.{trackFaults}
+use Rattle.rules.specs.Property.{replacementWrong, numbersFault, lastFrameOfDay, startFault, propertyFaults}
+use Rattle.rules.specs.Info.{infoFaults}
+use Rattle.rules.specs.Local.{repeats, lacks, soundBeforeProp, lacksAny, localFaults}
 use Rattle.checks.specs.Inputs.{Inputs, givenFaults, chunkFaults, verdict}
 
 -- a condition that is met, and a fault that is not

@@ -7,24 +7,24 @@ use native.Mathlib.Omega.{arith}
 use lib.Dec.{eqb}
 use lib.ListN.{length, length-map}
 use borrow.Author.Tests.{lt-ltb}
-use Rattle.chunk.specs.Tree.{bytes}
+use Rattle.tree.specs.Tree.{bytes}
 use Rattle.chunk.specs.Rows.{rows}
 use Rattle.texts.specs.declared.diin_text.Text.{Text}
 use Rattle.texts.specs.declared.diin_text.Text.the-variants.{Absent, Given}
 use Rattle.chunk.proofs.RowsLaws.{length-rows, length-mapped}
-use Rattle.markers.specs.Track.{spanOf, spans}
-use Rattle.markers.specs.Program.{fromToc}
+use Rattle.tracks.specs.Track.{spanOf, spans}
+use Rattle.track_markers.specs.Program.{fromToc}
 use Rattle.markers.specs.Custom.{customOf, customs}
-use Rattle.markers.specs.Diin.{markersOf, infoChunks, hasDiin}
-use Rattle.markers.specs.declared.diin.Info.{Info}
+use Rattle.master_info.specs.Diin.{markersOf, infoChunks, hasDiin}
+use Rattle.master_info.specs.declared.diin.Info.{Info}
 use Rattle.markers.proofs.AllLaws.{rows-all}
-use Rattle.markers.proofs.SizeLaws.{ShortText, ShortTexts, ShortTitles, toc-short, toc-few}
-use Rattle.markers.proofs.DiinSizeLaws.{ShortGiven, Limited, diin-room}
+use Rattle.track_markers.proofs.SizeLaws.{ShortText, ShortTexts, ShortTitles, toc-short, toc-few}
+use Rattle.master_info.proofs.DiinSizeLaws.{ShortGiven, Limited, diin-room}
 use Rattle.refusal.specs.declared.verdict.Verdict.the-variants.{Accepted}
-use Rattle.faults.specs.declared.row.Row.the-variants as row
-use Rattle.faults.proofs.RowFaultLaws.{RowsFit}
-use Rattle.checks.specs.Options.{extentOf, effective, infoOf}
-use Rattle.checks.specs.Limits.{longestText}
+use Rattle.rows.specs.declared.row.Row.the-variants as row
+use Rattle.rows.proofs.RowFaultLaws.{RowsFit}
+use Rattle.build_options.specs.Options.{extentOf, effective, infoOf}
+use Rattle.rules.specs.Limits.{longestText}
 use Rattle.checks.specs.Inputs.{Inputs, verdict}
 use Rattle.checks.proofs.AcceptedLaws.{tags-fit, emid-fits, tracks-fit, markers-fit}
 

@@ -2,7 +2,7 @@
 use mathlib.Core.Path.{_≡_, refl}
 use mathlib.Core.Bool.{true}
 use mathlib.Core.List.{[], _∷_}
-use Rattle.chunk.specs.Name.{propertyOrder, infoOrder, localOrder}
+use Rattle.chunk_names.specs.Name.{propertyOrder, infoOrder, localOrder}
 use Rattle.prop.specs.declared.compression.Sound.{Sound}
 use Rattle.prop.specs.declared.compression.Sound.the-variants.{Dsd, Dst}
 use Rattle.prop.specs.declared.layout.Layout.the-variants.{Stereo, Unspecified}
@@ -14,22 +14,22 @@ use Rattle.refusal.specs.Below.{below}
 use Rattle.refusal.specs.Orders.{times, eachOnce}
 use Rattle.refusal.specs.ChannelNumbers.{numberFaults}
 use Rattle.refusal.specs.declared.verdict.Verdict.the-variants.{Accepted, Refused}
-use Rattle.faults.specs.Lengths.{lengthsWrong}
-use Rattle.checks.specs.declared.area.Area.{Area}
+use Rattle.rows.specs.Lengths.{lengthsWrong}
+use Rattle.build_options.specs.declared.area.Area.{Area}
 use Rattle.texts.specs.Extent.{part}
 use Rattle.texts.specs.Text.{printable}
-use Rattle.faults.specs.Extents.{tooLarge, outsidePool}
-use Rattle.faults.specs.Scalars.{hasNoScalar, noScalars}
+use Rattle.rows.specs.Extents.{tooLarge, outsidePool}
+use Rattle.rows.specs.Scalars.{hasNoScalar, noScalars}
 use Rattle.faults.specs.Caller.{callerFaults}
-use Rattle.faults.specs.Comments.{commentFaults}
-use Rattle.checks.specs.Options.{defaults, effective}
-use Rattle.checks.specs.Limits.{anyTooLarge, anyOutside, anyNoScalar, limitFaults}
-use Rattle.checks.specs.Master.{sourceFault, editedMasterFault, trackFaults}
-use Rattle.checks.specs.Info.{infoFaults}
-use Rattle.checks.specs.Local.{lacksAny, localFaults}
+use Rattle.comment_faults.specs.Comments.{commentFaults}
+use Rattle.build_options.specs.Options.{defaults, effective}
+use Rattle.rules.specs.Limits.{anyTooLarge, anyOutside, anyNoScalar, limitFaults}
+use Rattle.area_rules.specs.Master.{sourceFault, editedMasterFault, trackFaults}
+use Rattle.rules.specs.Info.{infoFaults}
+use Rattle.rules.specs.Local.{lacksAny, localFaults}
 use Rattle.checks.specs.Inputs.{Inputs, givenFaults, chunkFaults, verdict}
-use Rattle.checks.specs.Area.{areaFault, lengthsFault, rangeFault, areaFaults}
-use Rattle.checks.specs.Property.{numbersFault, startFault, propertyFaults}
+use Rattle.area_rules.specs.Area.{areaFault, lengthsFault, rangeFault, areaFaults}
+use Rattle.rules.specs.Property.{numbersFault, startFault, propertyFaults}
 
 -- one position, stereo
 abbrev stereo : Sound → Area

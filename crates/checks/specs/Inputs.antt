@@ -2,23 +2,24 @@
 use Prim.Native.Nat.{ℕ}
 use mathlib.Core.Bool.{_&&_}
 use mathlib.Core.List.{List, [], _∷_}
-use Rattle.chunk.specs.declared.names.PropertyChunk.{PropertyChunk}
-use Rattle.chunk.specs.declared.names.InfoChunk.{InfoChunk}
-use Rattle.chunk.specs.declared.names.LocalChunk.{LocalChunk}
+use Rattle.chunk_names.specs.declared.PropertyChunk.{PropertyChunk}
+use Rattle.chunk_names.specs.declared.InfoChunk.{InfoChunk}
+use Rattle.chunk_names.specs.declared.LocalChunk.{LocalChunk}
 use Rattle.refusal.specs.Verdict.{firstOf}
 use Rattle.faults.specs.Caller.{callerFaults}
-use Rattle.faults.specs.Comments.{commentFaults}
+use Rattle.comment_faults.specs.Comments.{commentFaults}
 use Rattle.refusal.specs.declared.verdict.Verdict.{Verdict}
-use Rattle.checks.specs.declared.area.Area.{Area}
-use Rattle.checks.specs.declared.options.Options.{Options}
-use Rattle.checks.specs.declared.options.Settings.{Settings}
-use Rattle.checks.specs.Options.{effective, textOptions, infoOf}
-use Rattle.checks.specs.Limits.{limitFaults}
-use Rattle.checks.specs.Area.{isDst, areaFaults}
-use Rattle.checks.specs.Master.{trackFaults}
-use Rattle.checks.specs.Property.{propertyFaults}
-use Rattle.checks.specs.Info.{infoFaults}
-use Rattle.checks.specs.Local.{localFaults}
+use Rattle.build_options.specs.declared.area.Area.{Area}
+use Rattle.build_options.specs.declared.options.Options.{Options}
+use Rattle.build_options.specs.declared.options.Settings.{Settings}
+use Rattle.build_options.specs.Options.{effective, textOptions, infoOf}
+use Rattle.rules.specs.Limits.{limitFaults}
+use Rattle.build_options.specs.Area.{isDst}
+use Rattle.area_rules.specs.Area.{areaFaults}
+use Rattle.area_rules.specs.Master.{trackFaults}
+use Rattle.rules.specs.Property.{propertyFaults}
+use Rattle.rules.specs.Info.{infoFaults}
+use Rattle.rules.specs.Local.{localFaults}
 
 pub record Inputs : Type 0 where
   pub area : Area

@@ -1,12 +1,12 @@
 // The verdict on the inputs of a build: the first refusal of document 01's list.
 ghost use mathlib.Core.Path.{_≡_};
 ghost use Rattle.checks.specs.Inputs.{givenFaults, chunkFaults, verdict};
-use crate::area::Area;
-use crate::options::Options;
-use crate::options::Settings;
-use chunk::names::InfoChunk;
-use chunk::names::LocalChunk;
-use chunk::names::PropertyChunk;
+use build_options::area::Area;
+use build_options::options::Options;
+use build_options::options::Settings;
+use chunk_names::InfoChunk;
+use chunk_names::LocalChunk;
+use chunk_names::PropertyChunk;
 use refusal::verdict::Verdict;
 
 // 1 to 5
@@ -21,7 +21,7 @@ fn given_faults(
 ) -> Verdict
     ensures { λ r. ⌜ r ≡ givenFaults o (now (pool .entry)) (now (raw .entry)) (now (tracks .entry)) (now (markers .entry)) (now (comments .entry)) (now (callers .entry)) ⌝ }
 {
-    let a = crate::limits::limit_faults(o, pool, raw, tracks, markers, comments, callers);
+    let a = rules::limits::limit_faults(o, pool, raw, tracks, markers, comments, callers);
     let b = faults::caller::caller_faults(callers);
     a.or_else(b)
 }
@@ -43,12 +43,12 @@ fn chunk_faults(
     ensures { λ r. ⌜ r ≡ chunkFaults area o s «info_order» «local_order» «local_count» (now (pool .entry)) (now (raw .entry)) (now (tracks .entry)) (now (markers .entry)) (now (comments .entry)) ⌝ }
 {
     let sound = area.sound;
-    let dst_index = crate::area::is_dst(sound) & o.dst_index;
-    let info = crate::options::info_of(area, o, s);
+    let dst_index = build_options::area::is_dst(sound) & o.dst_index;
+    let info = build_options::options::info_of(area, o, s);
     let text = info.text;
-    let a = crate::info::info_faults(area, info, info_order, raw, markers);
-    let b = faults::comments::comment_faults(comments, pool, text, area.channels);
-    let c = crate::local::local_faults(
+    let a = rules::info::info_faults(area, info, info_order, raw, markers);
+    let b = comment_faults::comments::comment_faults(comments, pool, text, area.channels);
+    let c = rules::local::local_faults(
         local_order,
         local_count,
         dst_index,
@@ -95,11 +95,11 @@ pub fn verdict(
       lengths = now (lengths .entry);
     }) ⌝ }
 {
-    let s = crate::options::effective(options);
+    let s = build_options::options::effective(options);
     let a = given_faults(options, pool, raw, tracks, markers, comments, callers);
-    let b = crate::area::area_faults(area, lengths);
-    let c = crate::master::track_faults(area, options, s, tracks);
-    let d = crate::property::property_faults(area, options, s, property_order);
+    let b = area_rules::area::area_faults(area, lengths);
+    let c = area_rules::master::track_faults(area, options, s, tracks);
+    let d = rules::property::property_faults(area, options, s, property_order);
     let e = chunk_faults(
         area,
         options,

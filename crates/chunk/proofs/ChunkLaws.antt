@@ -6,7 +6,7 @@ use native.Mathlib.Omega.{arith}
 use lib.ListN.{length, length-append, length-replicate}
 use Rattle.chunk.specs.Append.{Appended}
 use Rattle.chunk.specs.Number.{be}
-use Rattle.chunk.specs.Name.{Name}
+use Rattle.chunk_names.specs.Name.{Name}
 use Rattle.chunk.specs.Chunk.{pad, chunk, occupied, counts}
 use Rattle.chunk.proofs.NumberLaws.{length-be}
 use Rattle.chunk.proofs.AppendLaws.{_then_}

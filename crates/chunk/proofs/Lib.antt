@@ -1,12 +1,5 @@
 pub mod NumberLaws
 pub mod AppendLaws
-pub mod NameLaws
 pub mod ChunkLaws
 pub mod ListLaws
 pub mod RowsLaws
-pub mod ValueLaws
-pub mod TreeLaws
-pub mod ReaderLaws
-pub mod WalkLaws
-pub mod GatherLaws
-pub mod Examples

@@ -4,7 +4,7 @@ use Prim.Native.Nat.{ℕ, _+_, _%_}
 use mathlib.Core.List.{List, _++_}
 use lib.ListN.{length, replicate}
 use Rattle.chunk.specs.Number.{be}
-use Rattle.chunk.specs.Name.{Name}
+use Rattle.chunk_names.specs.Name.{Name}
 
 -- the pad after so many bytes of data
 unfoldable pub pad : ℕ → List ℕ

@@ -1,10 +1,5 @@
 pub mod Number
 pub mod Append
-pub mod Name
 pub mod Chunk
 pub mod Time
 pub mod Rows
-pub mod Tree
-pub mod Reader
-pub mod Value
-pub mod Gather

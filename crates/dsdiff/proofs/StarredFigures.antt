@@ -5,19 +5,19 @@ use mathlib.Core.List.{List, [], _∷_, _++_, flatMap}
 use Prim.Native.Nat.{ℕ, _+_, _*_}
 use lib.ListN.{length, take, drop, set}
 use Rattle.chunk.specs.Number.{be, num}
-use Rattle.chunk.specs.Name.{ascii, propertyOrder, infoOrder, localOrder}
+use Rattle.chunk_names.specs.Name.{ascii, propertyOrder, infoOrder, localOrder}
 use Rattle.chunk.specs.Chunk.{pad, chunk, counts, occupied}
 use Rattle.chunk.specs.Rows.{firstRows, rows}
 use Rattle.chunk.specs.Time.{timeOf}
-use Rattle.chunk.specs.Tree.{bytes, join, each}
-use Rattle.chunk.specs.declared.names.PropertyChunk.the-variants.{CompressionType}
+use Rattle.tree.specs.Tree.{bytes, join, each}
+use Rattle.chunk_names.specs.declared.PropertyChunk.the-variants.{CompressionType}
 use Rattle.checksum.specs.Crc.{bit, bits, byteOf, bytesOf, crcOf}
 use Rattle.texts.specs.Extent.{part}
 use Rattle.texts.specs.Text.{printable}
-use Rattle.texts.specs.Comment.{writtenComments, hasComt, comt}
+use Rattle.comt.specs.Comment.{writtenComments, hasComt, comt}
 use Rattle.dst.specs.Frame.{frameBytes}
 use Rattle.dst.specs.Unit.{unitSize, sizes}
-use Rattle.dst.specs.Place.{sum}
+use Rattle.dst.specs.Start.{sum}
 use Rattle.dst.specs.Head.{rate, frte, dataSize, head}
 use Rattle.dst.specs.Index.{entry, index, dsti}
 use Rattle.dst.specs.declared.index.DstIndexOffset.{DstIndexOffset}
@@ -31,23 +31,23 @@ use Rattle.prop.specs.declared.compression.Sound.the-variants.{Dsd, Dst}
 use Rattle.prop.specs.declared.layout.Layout.the-variants.{Stereo}
 use Rattle.prop.specs.declared.start.Start.{Start}
 use Rattle.prop.specs.declared.start.Start.the-variants.{Absent, Given}
-use Rattle.markers.specs.Diin.{hasDiin, diin}
+use Rattle.master_info.specs.Diin.{hasDiin, diin}
 use Rattle.refusal.specs.Below.{below}
 use Rattle.refusal.specs.Orders.{times, eachOnce}
 use Rattle.refusal.specs.declared.verdict.Verdict.the-variants.{Accepted, Refused}
-use Rattle.faults.specs.Lengths.{lengthsWrong}
-use Rattle.faults.specs.Extents.{tooLarge, outsidePool}
-use Rattle.faults.specs.Scalars.{hasNoScalar, noScalars}
+use Rattle.rows.specs.Lengths.{lengthsWrong}
+use Rattle.rows.specs.Extents.{tooLarge, outsidePool}
+use Rattle.rows.specs.Scalars.{hasNoScalar, noScalars}
 use Rattle.faults.specs.Caller.{callerFaults}
-use Rattle.faults.specs.Comments.{commentFaults}
-use Rattle.checks.specs.declared.options.Options.{Options}
-use Rattle.checks.specs.Options.{defaults, effective}
-use Rattle.checks.specs.Limits.{anyTooLarge, anyOutside, anyNoScalar, limitFaults}
-use Rattle.checks.specs.Area.{areaFault, lengthsFault, rangeFault, areaFaults}
-use Rattle.checks.specs.Master.{sourceFault, editedMasterFault, trackFaults}
-use Rattle.checks.specs.Property.{numbersFault, startFault, propertyFaults}
-use Rattle.checks.specs.Info.{infoFaults}
-use Rattle.checks.specs.Local.{lacksAny, localFaults}
+use Rattle.comment_faults.specs.Comments.{commentFaults}
+use Rattle.build_options.specs.declared.options.Options.{Options}
+use Rattle.build_options.specs.Options.{defaults, effective}
+use Rattle.rules.specs.Limits.{anyTooLarge, anyOutside, anyNoScalar, limitFaults}
+use Rattle.area_rules.specs.Area.{areaFault, lengthsFault, rangeFault, areaFaults}
+use Rattle.area_rules.specs.Master.{sourceFault, editedMasterFault, trackFaults}
+use Rattle.rules.specs.Property.{numbersFault, startFault, propertyFaults}
+use Rattle.rules.specs.Info.{infoFaults}
+use Rattle.rules.specs.Local.{lacksAny, localFaults}
 use Rattle.checks.specs.Inputs.{Inputs, givenFaults, chunkFaults, verdict}
 use Rattle.layout.specs.Parts.{parts, properties, indexOf}
 use Rattle.layout.specs.Sound.{soundSize, soundHead}

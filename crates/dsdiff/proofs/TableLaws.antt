@@ -12,11 +12,11 @@ use lib.Dec.{lit≤}
 use lib.ListN.{length, take, drop, replicate, length-append, length-replicate, take-append-drop}
 use lib.Seq.{sets, sets-eq, drop-drop, paste, length-paste, take-paste, drop-paste, take-at}
 use Rattle.refusal.specs.declared.verdict.Verdict.the-variants.{Refused}
-use Rattle.faults.specs.Extents.{tooLarge}
-use Rattle.faults.specs.declared.row.Row.the-variants as row
+use Rattle.rows.specs.Extents.{tooLarge}
+use Rattle.rows.specs.declared.row.Row.the-variants as row
 use Rattle.markers.specs.declared.marker.MarkerKind.the-variants.{Index}
-use Rattle.checks.specs.declared.options.Options.{Options}
-use Rattle.checks.specs.Limits.{anyTooLarge, limitFaults, mostMarkers, longestText}
+use Rattle.build_options.specs.declared.options.Options.{Options}
+use Rattle.rules.specs.Limits.{anyTooLarge, limitFaults, mostMarkers, longestText}
 use Rattle.checks.specs.Inputs.{Inputs, givenFaults, verdict}
 use Rattle.assemble.specs.declared.build.Answer.{Answer}
 use Rattle.dsdiff.specs.declared.marker.Marker.{Marker}

@@ -6,9 +6,9 @@ use native.Mathlib.Omega.{arith}
 use lib.ListN.{length, take, drop, getD}
 use lib.Seq.{take-at}
 use Rattle.chunk.specs.Number.{num}
-use Rattle.chunk.specs.Name.{ascii}
+use Rattle.chunk_names.specs.Name.{ascii}
 use Rattle.chunk.specs.Chunk.{chunk}
-use Rattle.chunk.specs.Tree.{bytes}
+use Rattle.tree.specs.Tree.{bytes}
 use Rattle.dst.specs.Frame.{Frame}
 use Rattle.dst.specs.Unit.{lengths}
 use Rattle.dst.specs.Index.{shiftOf, Stands}

@@ -8,11 +8,11 @@ ghost use Rattle.assemble.specs.Build.{inputsOf, Builds};
 ghost use Rattle.dsdiff.specs.Marker.{lookedAt};
 ghost use Rattle.dsdiff.specs.Table.{noRows, stored, filled};
 use assemble::build::Answer;
-use checks::area::Area;
-use checks::options::Options;
-use chunk::names::InfoChunk;
-use chunk::names::LocalChunk;
-use chunk::names::PropertyChunk;
+use build_options::area::Area;
+use build_options::options::Options;
+use chunk_names::InfoChunk;
+use chunk_names::LocalChunk;
+use chunk_names::PropertyChunk;
 use markers::marker::MarkerKind;
 use texts::extent::Extent;
 

@@ -7,11 +7,11 @@ use lib.ListN.{length}
 use Rattle.chunk.specs.Append.{moved}
 use Rattle.chunk.specs.Number.{be}
 use Rattle.chunk.specs.Chunk.{pad, chunk, occupied}
-use Rattle.chunk.specs.Tree.{bytes}
+use Rattle.tree.specs.Tree.{bytes}
 use Rattle.checksum.specs.Crc.{bit, bits, byteOf, bytesOf, crcOf}
 use Rattle.dst.specs.Frame.{Frame}
 use Rattle.dst.specs.Unit.{unit, unitBytes, unitSize, sizes}
-use Rattle.dst.specs.Place.{sum}
+use Rattle.dst.specs.Start.{sum}
 use Rattle.dst.specs.Head.{rate, frte, dataSize, head}
 use Rattle.dst.specs.Index.{shiftOf, entry, index}
 use Rattle.dst.specs.declared.index.DstIndexOffset.the-variants.{ChunkHeader, FrameData}

@@ -9,16 +9,16 @@ use lib.ListN.{length, take, drop, getD, length-append, length-map}
 use lib.Seq.{take-at, drop-at, drop-nil, drop-drop, drop-cons}
 use Rattle.chunk.specs.Append.{Appended, moved}
 use Rattle.chunk.specs.Number.{be, num}
-use Rattle.chunk.specs.Name.{ascii}
+use Rattle.chunk_names.specs.Name.{ascii}
 use Rattle.chunk.specs.Chunk.{chunk}
-use Rattle.chunk.specs.Tree.{stop, leaf, bytes}
+use Rattle.tree.specs.Tree.{stop, leaf, bytes}
 use Rattle.chunk.proofs.NumberLaws.{length-be, num-be}
 use Rattle.chunk.proofs.AppendLaws.{_then_, kept, overlay-out}
-use Rattle.chunk.proofs.TreeLaws.{bytes-leaf}
+use Rattle.tree.proofs.TreeLaws.{bytes-leaf}
 use Rattle.checksum.specs.Crc.{crcOf}
 use Rattle.dst.specs.Frame.{Frame}
 use Rattle.dst.specs.Unit.{lengths, unit, unitBytes, sound, unitSize, sizes}
-use Rattle.dst.specs.Place.{sum, start}
+use Rattle.dst.specs.Start.{sum, start}
 use Rattle.dst.specs.Head.{head}
 use Rattle.dst.specs.Index.{shiftOf, entry, index, dsti, Stands}
 use Rattle.dst.specs.declared.index.DstIndexOffset.{DstIndexOffset}

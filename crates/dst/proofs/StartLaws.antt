@@ -1,4 +1,4 @@
--- The laws of `sum` and `start` of specs/Place.antt. Assumes nothing.
+-- The laws of `sum` and `start` of specs/Start.antt. Assumes nothing.
 use mathlib.Core.Path.{_≡_, refl, ap, _∙_}
 use mathlib.Core.List.{List, [], _∷_, _++_, map}
 use Prim.Native.Nat.{ℕ, zero, suc, _+_, _-_, _≤_, _<_}
@@ -6,7 +6,7 @@ use native.Mathlib.Nat.{not-suc-le-zero, le-of-suc-le-suc}
 use native.Mathlib.Omega.{arith}
 use lib.ListN.{length, take, drop, getD}
 use lib.Seq.{take-all, take-add}
-use Rattle.dst.specs.Place.{sum, start}
+use Rattle.dst.specs.Start.{sum, start}
 
 pub sum-append : (a b : List ℕ) → sum (a ++ b) ≡ sum a + sum b
 unfolding sum

@@ -6,16 +6,16 @@ use Prim.Native.Nat.{ℕ, zero, suc, _+_, _%_, _^_, _<_}
 use native.Mathlib.Omega.{arith}
 use lib.ListN.{length, take, getD, length-append, length-map}
 use Rattle.chunk.specs.Number.{be}
-use Rattle.chunk.specs.Name.{Name, ascii}
+use Rattle.chunk_names.specs.Name.{Name, ascii}
 use Rattle.chunk.specs.Chunk.{chunk, occupied}
-use Rattle.chunk.specs.Tree.{Chunks, bytes}
+use Rattle.tree.specs.Tree.{Chunks, bytes}
 use Rattle.chunk.proofs.NumberLaws.{length-be}
 use Rattle.chunk.proofs.ChunkLaws.{length-chunk, pad-even}
-use Rattle.chunk.proofs.TreeLaws.{bytes-join}
+use Rattle.tree.proofs.TreeLaws.{bytes-join}
 use Rattle.checksum.specs.Crc.{crcOf}
 use Rattle.dst.specs.Frame.{Frame}
 use Rattle.dst.specs.Unit.{lengths, unit, unitBytes, units, sound, unitSize, sizes}
-use Rattle.dst.specs.Place.{sum, start}
+use Rattle.dst.specs.Start.{sum, start}
 use Rattle.dst.specs.Head.{rate, frte, dataSize, head, dst}
 use Rattle.dst.proofs.SaturateLaws.{moved-fits}
 use Rattle.dst.proofs.StartLaws.{start-suc, size-at}

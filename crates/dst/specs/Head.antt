@@ -5,12 +5,12 @@ use mathlib.Core.List.{List, [], _++_}
 use lib.ListN.{length}
 use Rattle.chunk.specs.Append.{moved}
 use Rattle.chunk.specs.Number.{be}
-use Rattle.chunk.specs.Name.{ascii}
+use Rattle.chunk_names.specs.Name.{ascii}
 use Rattle.chunk.specs.Chunk.{chunk}
-use Rattle.chunk.specs.Tree.{Chunks, leaf, node}
+use Rattle.tree.specs.Tree.{Chunks, leaf, node}
 use Rattle.dst.specs.Frame.{Frame}
 use Rattle.dst.specs.Unit.{units, sizes}
-use Rattle.dst.specs.Place.{sum}
+use Rattle.dst.specs.Start.{sum}
 
 -- the data of FRTE: how many frames, at 75 a second
 unfoldable pub rate : ℕ → List ℕ

@@ -7,7 +7,7 @@ use mathlib.Core.List.{List, [], _∷_, _++_}
 use lib.ListN.{length, take, drop}
 use Rattle.chunk.specs.Append.{moved}
 use Rattle.chunk.specs.Number.{be}
-use Rattle.chunk.specs.Name.{ascii}
+use Rattle.chunk_names.specs.Name.{ascii}
 use Rattle.dst.specs.Unit.{unitSize}
 use Rattle.dst.specs.declared.index.DstIndexOffset.{DstIndexOffset}
 use Rattle.dst.specs.declared.index.DstIndexOffset.the-variants.{ChunkHeader, FrameData}

@@ -4,7 +4,7 @@ ghost use lib.ListN.{take};
 ghost use Prim.Native.Nat.{_-_, _^_, min};
 ghost use Rattle.chunk.specs.Append.{moved};
 ghost use Rattle.dst.specs.Unit.{unitSize, sizes};
-ghost use Rattle.dst.specs.Place.{sum, start};
+ghost use Rattle.dst.specs.Start.{sum, start};
 ghost use Rattle.dst.specs.Head.{dataSize};
 use chunk::chunks::occupied;
 
@@ -12,7 +12,7 @@ use chunk::chunks::occupied;
 const DSTC: u64 = 16;
 
 // The sum, at most the largest u64.
-pub(crate) fn plus(a: u64, b: u64) -> u64
+pub fn plus(a: u64, b: u64) -> u64
     ensures { λ r. ⌜ r ≡ moved a b ⌝ }
 {
     if b <= u64::MAX - a {

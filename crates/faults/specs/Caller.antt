@@ -6,13 +6,13 @@ use mathlib.Core.List.{List, [], _∷_}
 use lib.Dec.{eqb}
 use lib.ListN.{getD}
 use Rattle.chunk.specs.Number.{be}
-use Rattle.chunk.specs.Name.{Name, reserved}
+use Rattle.chunk_names.specs.Name.{Name, reserved}
 use Rattle.texts.specs.Text.{printable}
 use Rattle.refusal.specs.declared.verdict.Verdict.{Verdict}
-use Rattle.faults.specs.declared.row.Row.the-variants.{Caller}
+use Rattle.rows.specs.declared.row.Row.the-variants.{Caller}
 use Rattle.refusal.specs.Verdict.{refuseIf, firstOf}
 use Rattle.refusal.specs.Below.{firstRefused}
-use Rattle.faults.specs.Row.{rowAt, countOfRows}
+use Rattle.rows.specs.Row.{rowAt, countOfRows}
 
 -- whether all bytes are text bytes
 abbrev pub allText : List ℕ → Bool

@@ -1,9 +1,3 @@
-pub mod Row
-pub mod Extents
-pub mod Scalars
 pub mod Caller
-pub mod Lengths
-pub mod Durations
 pub mod TextBytes
 pub mod Marks
-pub mod Comments

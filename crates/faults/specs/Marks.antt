@@ -8,10 +8,10 @@ use lib.ListN.{getD}
 use Rattle.texts.specs.Extent.{part}
 use Rattle.texts.specs.declared.text.TextRule.{TextRule}
 use Rattle.refusal.specs.declared.verdict.Verdict.{Verdict}
-use Rattle.faults.specs.declared.row.Row.the-variants.{Marker}
+use Rattle.rows.specs.declared.row.Row.the-variants.{Marker}
 use Rattle.refusal.specs.Verdict.{refuseIf, firstOf}
 use Rattle.refusal.specs.Below.{firstRefused}
-use Rattle.faults.specs.Row.{rowAt, extentOf, countOfRows}
+use Rattle.rows.specs.Row.{rowAt, extentOf, countOfRows}
 use Rattle.faults.specs.TextBytes.{hasNoText}
 
 module _ (markers raw : List ℕ) (rule : TextRule) (first end : ℕ) where

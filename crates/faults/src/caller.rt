@@ -2,9 +2,9 @@
 ghost use mathlib.Core.Path.{_≡_};
 ghost use Rattle.chunk.specs.Number.{be};
 ghost use Rattle.faults.specs.Caller.{spaceThenMore, isNoName, nameFault, callerFaults};
-use crate::row::Row;
 use refusal::verdict::Verdict;
 use refusal::verdict::refuse_if;
+use rows::row::Row;
 use texts::text::printable;
 
 const SPACE: u8 = 0x20;
@@ -43,7 +43,7 @@ fn name_fault(name: [u8; 4]) -> Verdict
     ensures { λ r. ⌜ r ≡ nameFault name ⌝ }
 {
     let v4 = refuse_if(is_no_name(name), 4, 0);
-    let v5 = refuse_if(chunk::names::is_reserved(name), 5, 0);
+    let v5 = refuse_if(chunk_names::is_reserved(name), 5, 0);
     v4.or_else(v5)
 }
 
@@ -56,7 +56,7 @@ pub fn caller_faults(callers: &[u32]) -> Verdict
     let mut v = Verdict::Accepted;
     let mut k = 0;
     while k < n {
-        let name = name_of(crate::row::word(callers, 3, k, 0));
+        let name = name_of(rows::row::word(callers, 3, k, 0));
         v = v.or_else(name_fault(name));
         k += 1;
     }

@@ -3,9 +3,9 @@ ghost use mathlib.Core.Path.{_≡_};
 ghost use Prim.Native.Nat.{_<_, _/_};
 ghost use lib.ListN.{length};
 ghost use Rattle.faults.specs.Marks.{markerFault, markerFaults};
-use crate::row::Row;
 use refusal::verdict::Verdict;
 use refusal::verdict::refuse_if;
+use rows::row::Row;
 use texts::text::TextRule;
 
 // 32 and 33 of marker k: it lies outside the range, or its text has a byte that no text has.
@@ -20,8 +20,8 @@ fn marker_fault(
     requires { ⌜ k < length (now markers) / 4 ⌝ }
     ensures { λ r. ⌜ r ≡ markerFault (now (markers .entry)) (now (raw .entry)) rule first end k ⌝ }
 {
-    let frame = crate::row::word(markers, 4, k, 0);
-    let text = crate::row::extent_at(markers, 4, k);
+    let frame = rows::row::word(markers, 4, k, 0);
+    let text = rows::row::extent_at(markers, 4, k);
     let v32 = refuse_if((frame < first) | (end < frame), 32, 0);
     let v33 = refuse_if(crate::text_bytes::part_has_no_text(rule, raw, text), 33, 0);
     v32.or_else(v33)

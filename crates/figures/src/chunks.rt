@@ -92,7 +92,7 @@ pub fn short_buffers() {
 fn reserved(id: [u8; 4]) {
     print::text(&id);
     print::text(b" is reserved:");
-    print::yes_or_no(chunk::names::is_reserved(id));
+    print::yes_or_no(chunk_names::is_reserved(id));
 }
 
 pub fn names() {

@@ -1,16 +1,16 @@
 // DIIN and its markers. The bytes that it must have were taken out of the original's files.
 use crate::print;
 use chunk::Cursor;
-use chunk::names::InfoChunk;
-use markers::diin::Info;
-use markers::pick::ArtistTitle;
-use markers::pick::ArtistTitleSource;
-use markers::program::ProgramOptions;
+use chunk_names::InfoChunk;
+use master_info::diin::Info;
+use master_info::pick::ArtistTitle;
+use master_info::pick::ArtistTitleSource;
 use prop::start::Start;
 use texts::diin_text::Text;
 use texts::extent::Extent;
 use texts::text::TextOptions;
 use texts::text::TextRule;
+use tracks::order::ProgramOptions;
 
 // The words of rows: a track has start, duration, title start and title length; a marker frame, kind and flags, text start and text length.
 const TOUCHING: [u32; 8] = [0, 75, 0, 0, 75, 75, 0, 0];
@@ -56,7 +56,7 @@ fn diin(title: &[u8], tracks: &[u32], custom: &[u32], order: [InfoChunk; 4], inf
     let pool = TITLES;
     let raw = RAW;
     let c = Cursor::new();
-    let end = markers::diin::diin(c, &mut out, &pool, &raw, tracks, custom, order, info);
+    let end = master_info::diin::diin(c, &mut out, &pool, &raw, tracks, custom, order, info);
     print::text(b"DIIN, ");
     print::text(title);
     print::length(end.at);

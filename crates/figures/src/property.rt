@@ -1,7 +1,7 @@
 // PROP. The bytes that it must have were taken out of the original's files.
 use crate::print;
 use chunk::Cursor;
-use chunk::names::PropertyChunk;
+use chunk_names::PropertyChunk;
 use prop::compression::Sound;
 use prop::layout::ChannelNumbers;
 use prop::layout::Layout;

@@ -1,13 +1,13 @@
 // The sound of a file of two DST frames, of 3 and of 4 bytes, and the positions of DSD sound.
 use crate::print;
 use chunk::Cursor;
-use dst::dsd_data;
-use dst::dst_data;
 use dst::index::DstIndexOffset;
-use dst::lent::Fill;
-use dst::place::Positions;
 use dst::unit;
-use dst::window::Window;
+use sound_reads::dsd_data;
+use sound_reads::dst_data;
+use sound_reads::lent::Fill;
+use sound_reads::place::Positions;
+use window::window::Window;
 
 const LENGTHS: [u32; 2] = [3, 4];
 

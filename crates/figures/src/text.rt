@@ -32,7 +32,7 @@ fn diin(id: [u8; 4], pool: &[u32], text: Text, options: TextOptions) {
 fn comments(pool: &[u32], rows: &[u32], options: TextOptions) {
     let mut out = [0xEEu8; 192];
     let c = Cursor::new();
-    let end = texts::comt::comt(c, &mut out, pool, rows, options);
+    let end = comt::comt::comt(c, &mut out, pool, rows, options);
     print::text(b"COMT");
     print::length(end.at);
     print::front(&out, end.at);

@@ -7,9 +7,9 @@ use native.Mathlib.Omega.{arith}
 use lib.ListN.{length, take, drop, length-take, length-drop}
 use lib.Seq.{take-all}
 use Rattle.chunk.specs.Rows.{rows}
-use Rattle.chunk.specs.Tree.{bytes, each}
+use Rattle.tree.specs.Tree.{bytes, each}
 use Rattle.chunk.proofs.RowsLaws.{length-rows, get-rows}
-use Rattle.chunk.proofs.TreeLaws.{bytes-each-next}
+use Rattle.tree.proofs.TreeLaws.{bytes-each-next}
 use Rattle.layout.specs.Caller.{callerChunk, callerChunks}
 
 -- row i is whole

@@ -6,16 +6,16 @@ use Prim.Native.Nat.{ℕ, _+_, _*_, _%_, _^_, _≤_, _<_}
 use native.Mathlib.Omega.{arith}
 use lib.ListN.{length, length-append}
 use Rattle.chunk.specs.Number.{be}
-use Rattle.chunk.specs.Name.{ascii}
+use Rattle.chunk_names.specs.Name.{ascii}
 use Rattle.chunk.specs.Chunk.{chunk, occupied}
-use Rattle.chunk.specs.Tree.{Chunks, stop, leaf, node, bytes, join, each}
-use Rattle.chunk.specs.declared.names.LocalChunk.{LocalChunk}
-use Rattle.chunk.specs.declared.names.LocalChunk.the-variants.{Property, SoundData, DstIndex, EditedMasterInfo, Comments}
+use Rattle.tree.specs.Tree.{Chunks, stop, leaf, node, bytes, join, each}
+use Rattle.chunk_names.specs.declared.LocalChunk.{LocalChunk}
+use Rattle.chunk_names.specs.declared.LocalChunk.the-variants.{Property, SoundData, DstIndex, EditedMasterInfo, Comments}
 use Rattle.chunk.proofs.NumberLaws.{length-be}
 use Rattle.chunk.proofs.ChunkLaws.{length-chunk}
-use Rattle.chunk.proofs.TreeLaws.{bytes-stop, bytes-leaf, bytes-node, bytes-join, bytes-each, bytes-each-cons}
-use Rattle.texts.specs.Comment.{writtenComments, comtData, hasComt, comtChunk}
-use Rattle.texts.proofs.CommentLaws.{comt-tree}
+use Rattle.tree.proofs.TreeLaws.{bytes-stop, bytes-leaf, bytes-node, bytes-join, bytes-each, bytes-each-cons}
+use Rattle.comt.specs.Comment.{writtenComments, comtData, hasComt, comtChunk}
+use Rattle.comt.proofs.CommentLaws.{comt-tree}
 use Rattle.dst.specs.Frame.{Frame}
 use Rattle.dst.specs.Head.{dst}
 use Rattle.dst.specs.Index.{dsti}
@@ -24,7 +24,7 @@ use Rattle.dst.proofs.IndexLaws.{dsti-bytes, length-dsti}
 use Rattle.prop.specs.Property.{property}
 use Rattle.prop.specs.declared.compression.Sound.{Sound}
 use Rattle.prop.specs.declared.compression.Sound.the-variants.{Dsd, Dst}
-use Rattle.markers.specs.Diin.{infoChunks, hasDiin, diin}
+use Rattle.master_info.specs.Diin.{infoChunks, hasDiin, diin}
 use Rattle.refusal.specs.Orders.{localRank, times}
 use Rattle.checks.specs.Inputs.{Inputs}
 use Rattle.layout.specs.Parts.{Parts, parts, info, hasIndex, firstOffset, indexOf}

@@ -5,12 +5,12 @@ use Prim.Native.Nat.{ℕ, _+_, _-_, _*_, _^_, _≤_, _<_}
 use native.Mathlib.Omega.{arith}
 use lib.ListN.{length, take, drop, getD}
 use Rattle.chunk.specs.Number.{num}
-use Rattle.chunk.specs.Name.{ascii}
+use Rattle.chunk_names.specs.Name.{ascii}
 use Rattle.chunk.specs.Chunk.{chunk}
-use Rattle.chunk.specs.Tree.{bytes}
+use Rattle.tree.specs.Tree.{bytes}
 use Rattle.dst.specs.Frame.{Frame}
 use Rattle.dst.specs.Unit.{sizes, lengths, sound}
-use Rattle.dst.specs.Place.{sum, start}
+use Rattle.dst.specs.Start.{sum, start}
 use Rattle.dst.specs.Index.{shiftOf, Stands}
 use Rattle.dst.specs.declared.index.DstIndexOffset.{DstIndexOffset}
 use Rattle.dst.specs.declared.index.DstIndexOffset.the-variants.{ChunkHeader, FrameData}

@@ -8,8 +8,8 @@ use native.Mathlib.Omega.{arith}
 use lib.Dec.{eqb}
 use lib.ListN.{length, take, getD}
 use lib.Seq.{take-suc}
-use Rattle.chunk.specs.declared.names.LocalChunk.{LocalChunk}
-use Rattle.chunk.specs.declared.names.LocalChunk.the-variants.{Property, SoundData, DstIndex, EditedMasterInfo, Comments}
+use Rattle.chunk_names.specs.declared.LocalChunk.{LocalChunk}
+use Rattle.chunk_names.specs.declared.LocalChunk.the-variants.{Property, SoundData, DstIndex, EditedMasterInfo, Comments}
 use Rattle.chunk.proofs.ListLaws.{flatMap-append, flatMap-one}
 use Rattle.refusal.specs.Below.{below, howMany}
 use Rattle.refusal.specs.Orders.{localRank, times}

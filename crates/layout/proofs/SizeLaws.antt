@@ -10,24 +10,24 @@ use borrow.Author.Tests.{eqb-false}
 use lib.Dec.{lit<}
 use lib.ListN.{length, getD, take, drop, length-append, length-take}
 use Rattle.chunk.specs.Number.{be}
-use Rattle.chunk.specs.Name.{ascii}
+use Rattle.chunk_names.specs.Name.{ascii}
 use Rattle.chunk.specs.Chunk.{chunk, occupied}
 use Rattle.chunk.specs.Rows.{rows}
-use Rattle.chunk.specs.Tree.{stop, leaf, node, bytes, each}
-use Rattle.chunk.specs.declared.names.LocalChunk.{LocalChunk}
-use Rattle.chunk.specs.declared.names.LocalChunk.the-variants.{Property, SoundData, DstIndex, EditedMasterInfo, Comments}
+use Rattle.tree.specs.Tree.{stop, leaf, node, bytes, each}
+use Rattle.chunk_names.specs.declared.LocalChunk.{LocalChunk}
+use Rattle.chunk_names.specs.declared.LocalChunk.the-variants.{Property, SoundData, DstIndex, EditedMasterInfo, Comments}
 use Rattle.chunk.proofs.NumberLaws.{length-be}
 use Rattle.chunk.proofs.ChunkLaws.{length-chunk}
 use Rattle.chunk.proofs.ListLaws.{flatMap-bound}
-use Rattle.chunk.proofs.TreeLaws.{bytes-stop, bytes-leaf, bytes-node}
+use Rattle.tree.proofs.TreeLaws.{bytes-stop, bytes-leaf, bytes-node}
 use Rattle.texts.specs.Extent.{part}
 use Rattle.texts.specs.declared.extent.Extent.{Extent}
-use Rattle.texts.specs.Comment.{Written, writtenComments, comtData, hasComt, comt}
+use Rattle.comt.specs.Comment.{Written, writtenComments, comtData, hasComt, comt}
 use Rattle.texts.proofs.ExtentLaws.{length-part}
-use Rattle.texts.proofs.CommentLaws.{Fits, comments-fit, length-comtData, comtData-short}
+use Rattle.comt.proofs.CommentLaws.{Fits, comments-fit, length-comtData, comtData-short}
 use Rattle.dst.specs.Frame.{frameBytes}
 use Rattle.dst.specs.Unit.{unitSize, sizes}
-use Rattle.dst.specs.Place.{sum}
+use Rattle.dst.specs.Start.{sum}
 use Rattle.dst.specs.Head.{head}
 use Rattle.dst.specs.Index.{dsti}
 use Rattle.dst.proofs.IndexLaws.{length-dsti, length-head}
@@ -35,12 +35,13 @@ use Rattle.prop.specs.Property.{propertyChunks, property}
 use Rattle.prop.specs.declared.compression.Sound.{Sound}
 use Rattle.prop.specs.declared.compression.Sound.the-variants.{Dsd, Dst}
 use Rattle.prop.proofs.PropertyLaws.{property-short}
-use Rattle.markers.specs.Diin.{infoChunks, hasDiin, diin}
+use Rattle.master_info.specs.Diin.{infoChunks, hasDiin, diin}
 use Rattle.refusal.specs.Orders.{localRank, times}
 use Rattle.refusal.specs.declared.verdict.Verdict.the-variants.{Accepted}
-use Rattle.checks.specs.Area.{positions, isDst, lengthsWanted}
+use Rattle.build_options.specs.Area.{positions, isDst}
+use Rattle.area_rules.specs.Area.{lengthsWanted}
 use Rattle.checks.specs.Inputs.{Inputs, verdict}
-use Rattle.checks.specs.declared.area.Area.{Area}
+use Rattle.build_options.specs.declared.area.Area.{Area}
 use Rattle.checks.proofs.AcceptedLaws as accepted
 use Rattle.checks.proofs.DiinBelowLaws.{diin-low}
 use Rattle.layout.specs.Parts.{parts, properties, info, hasIndex, firstOffset}

@@ -7,15 +7,15 @@ use native.Mathlib.Nat.{mul-assoc, mul-comm, zero-mul, suc-mul, add-comm}
 use native.Mathlib.Omega.{arith}
 use lib.ListN.{length, replicate, length-append}
 use Rattle.chunk.specs.Number.{be}
-use Rattle.chunk.specs.Name.{ascii}
-use Rattle.chunk.specs.Tree.{stop, bytes}
-use Rattle.chunk.proofs.TreeLaws.{bytes-stop, bytes-leaf}
+use Rattle.chunk_names.specs.Name.{ascii}
+use Rattle.tree.specs.Tree.{stop, bytes}
+use Rattle.tree.proofs.TreeLaws.{bytes-stop, bytes-leaf}
 use Rattle.dst.specs.Frame.{Frame, frameBytes, dsdSound}
 use Rattle.dst.proofs.UnitLaws.{chunk-even, length-sound, even-sizes, dst-bytes}
 use Rattle.prop.specs.declared.compression.Sound.{Sound}
 use Rattle.prop.specs.declared.compression.Sound.the-variants.{Dsd, Dst}
-use Rattle.checks.specs.declared.area.Area.{Area}
-use Rattle.checks.specs.Area.{positions}
+use Rattle.build_options.specs.declared.area.Area.{Area}
+use Rattle.build_options.specs.Area.{positions}
 use Rattle.layout.specs.Sound.{soundBytes, soundChunk, Fits, soundSize, soundHead}
 
 -- contents of k bytes each

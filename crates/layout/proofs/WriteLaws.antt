@@ -5,7 +5,7 @@ use mathlib.Core.List.{List, [], flatMap}
 use Prim.Native.Nat.{ℕ, _+_, _<_}
 use lib.ListN.{length, take, getD}
 use Rattle.chunk.specs.Append.{Appended}
-use Rattle.chunk.specs.declared.names.LocalChunk.{LocalChunk}
+use Rattle.chunk_names.specs.declared.LocalChunk.{LocalChunk}
 use Rattle.chunk.proofs.AppendLaws.{_then_, kept}
 use Rattle.layout.specs.Sides.{isSound, onSide, hasSound, before, behind, side}
 use Rattle.layout.proofs.SideLaws.{side-next}

@@ -4,7 +4,7 @@ use Prim.Native.Nat.{ℕ}
 use lib.ListN.{getD}
 use Rattle.chunk.specs.Number.{be}
 use Rattle.chunk.specs.Rows.{rows}
-use Rattle.chunk.specs.Tree.{Chunks, stop, leaf, each}
+use Rattle.tree.specs.Tree.{Chunks, stop, leaf, each}
 use Rattle.texts.specs.Extent.{part}
 
 -- of a row of three words: the name's four bytes as one number, and the extent of the data

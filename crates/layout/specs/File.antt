@@ -7,14 +7,14 @@ use mathlib.Core.List.{List, _++_}
 use Prim.Native.Nat.{ℕ, _+_}
 use lib.ListN.{length}
 use Rattle.chunk.specs.Number.{be}
-use Rattle.chunk.specs.Name.{ascii}
-use Rattle.chunk.specs.Tree.{Chunks, stop, leaf, node, join, each}
-use Rattle.chunk.specs.declared.names.LocalChunk.{LocalChunk}
-use Rattle.chunk.specs.declared.names.LocalChunk.the-variants.{Property, SoundData, DstIndex, EditedMasterInfo, Comments}
-use Rattle.texts.specs.Comment.{comtChunk}
+use Rattle.chunk_names.specs.Name.{ascii}
+use Rattle.tree.specs.Tree.{Chunks, stop, leaf, node, join, each}
+use Rattle.chunk_names.specs.declared.LocalChunk.{LocalChunk}
+use Rattle.chunk_names.specs.declared.LocalChunk.the-variants.{Property, SoundData, DstIndex, EditedMasterInfo, Comments}
+use Rattle.comt.specs.Comment.{comtChunk}
 use Rattle.dst.specs.Frame.{Frame}
 use Rattle.prop.specs.Property.{property}
-use Rattle.markers.specs.Diin.{diin}
+use Rattle.master_info.specs.Diin.{diin}
 use Rattle.checks.specs.Inputs.{Inputs}
 use Rattle.layout.specs.Parts.{Parts, parts, properties, info, hasIndex, indexOf}
 use Rattle.layout.specs.Sound.{soundChunk, soundSize}

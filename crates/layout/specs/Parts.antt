@@ -3,16 +3,16 @@ use mathlib.Core.Bool.{Bool, _&&_}
 use mathlib.Core.List.{List}
 use Prim.Native.Nat.{ℕ}
 use Rattle.chunk.specs.Append.{moved}
-use Rattle.chunk.specs.declared.names.PropertyChunk.{PropertyChunk}
-use Rattle.chunk.specs.declared.names.InfoChunk.{InfoChunk}
+use Rattle.chunk_names.specs.declared.PropertyChunk.{PropertyChunk}
+use Rattle.chunk_names.specs.declared.InfoChunk.{InfoChunk}
 use Rattle.dst.specs.Index.{shiftOf, index}
 use Rattle.prop.specs.declared.property.Properties.{Properties}
-use Rattle.markers.specs.declared.diin.Info.{Info}
-use Rattle.checks.specs.declared.area.Area.{Area}
-use Rattle.checks.specs.declared.options.Options.{Options}
-use Rattle.checks.specs.declared.options.Settings.{Settings}
-use Rattle.checks.specs.Area.{isDst}
-use Rattle.checks.specs.Options.{effective, infoOf}
+use Rattle.master_info.specs.declared.diin.Info.{Info}
+use Rattle.build_options.specs.declared.area.Area.{Area}
+use Rattle.build_options.specs.declared.options.Options.{Options}
+use Rattle.build_options.specs.declared.options.Settings.{Settings}
+use Rattle.build_options.specs.Area.{isDst}
+use Rattle.build_options.specs.Options.{effective, infoOf}
 use Rattle.checks.specs.Inputs.{Inputs}
 
 pub record Parts : Type 0 where

@@ -5,15 +5,15 @@ use mathlib.Core.List.{List, [], _∷_, _++_, flatMap}
 use Prim.Native.Nat.{ℕ, min}
 use lib.ListN.{take}
 use Rattle.chunk.specs.Number.{be}
-use Rattle.chunk.specs.Name.{ascii}
+use Rattle.chunk_names.specs.Name.{ascii}
 use Rattle.chunk.specs.Chunk.{chunk}
-use Rattle.chunk.specs.Tree.{bytes}
-use Rattle.chunk.specs.declared.names.LocalChunk.{LocalChunk}
-use Rattle.chunk.specs.declared.names.LocalChunk.the-variants.{Property, SoundData, DstIndex, EditedMasterInfo, Comments}
-use Rattle.texts.specs.Comment.{comt}
+use Rattle.tree.specs.Tree.{bytes}
+use Rattle.chunk_names.specs.declared.LocalChunk.{LocalChunk}
+use Rattle.chunk_names.specs.declared.LocalChunk.the-variants.{Property, SoundData, DstIndex, EditedMasterInfo, Comments}
+use Rattle.comt.specs.Comment.{comt}
 use Rattle.dst.specs.Index.{dsti}
 use Rattle.prop.specs.Property.{property}
-use Rattle.markers.specs.Diin.{diin}
+use Rattle.master_info.specs.Diin.{diin}
 use Rattle.layout.specs.Parts.{Parts, properties, info, hasIndex, firstOffset}
 use Rattle.layout.specs.Sound.{soundHead}
 use Rattle.layout.specs.Caller.{callerChunks}

@@ -6,16 +6,16 @@ use mathlib.Core.List.{List, _++_, map}
 use Prim.Native.Nat.{ℕ, _*_}
 use lib.ListN.{length, replicate}
 use Rattle.chunk.specs.Number.{be}
-use Rattle.chunk.specs.Name.{ascii}
-use Rattle.chunk.specs.Tree.{Chunks, stop, leaf}
+use Rattle.chunk_names.specs.Name.{ascii}
+use Rattle.tree.specs.Tree.{Chunks, stop, leaf}
 use Rattle.dst.specs.Frame.{Frame, frameBytes, dsdSound}
 use Rattle.dst.specs.Unit.{sound, lengths, sizes}
-use Rattle.dst.specs.Place.{sum}
+use Rattle.dst.specs.Start.{sum}
 use Rattle.dst.specs.Head.{head, dst}
 use Rattle.prop.specs.declared.compression.Sound.{Sound}
 use Rattle.prop.specs.declared.compression.Sound.the-variants.{Dsd, Dst}
-use Rattle.checks.specs.declared.area.Area.{Area}
-use Rattle.checks.specs.Area.{positions}
+use Rattle.build_options.specs.declared.area.Area.{Area}
+use Rattle.build_options.specs.Area.{positions}
 
 -- the sound of frames
 unfoldable pub soundBytes : Sound → Bool → List Frame → List ℕ

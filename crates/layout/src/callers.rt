@@ -2,7 +2,7 @@
 ghost use mathlib.Core.Path.{_≡_};
 ghost use lib.ListN.{length};
 ghost use Rattle.chunk.specs.Append.{Appended};
-ghost use Rattle.chunk.specs.Tree.{bytes};
+ghost use Rattle.tree.specs.Tree.{bytes};
 ghost use Rattle.layout.specs.Caller.{callerChunk, callerChunks};
 use chunk::Cursor;
 use texts::extent::Extent;

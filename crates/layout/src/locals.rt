@@ -4,21 +4,21 @@ ghost use mathlib.Core.Bool.{cond, _&&_};
 ghost use mathlib.Core.List.{[]};
 ghost use Prim.Native.Nat.{min};
 ghost use Rattle.chunk.specs.Append.{Appended, moved};
-ghost use Rattle.chunk.specs.Tree.{bytes};
+ghost use Rattle.tree.specs.Tree.{bytes};
 ghost use Rattle.dst.specs.Index.{shiftOf, dsti};
 ghost use Rattle.prop.specs.Property.{property};
-ghost use Rattle.markers.specs.Diin.{diin};
-ghost use Rattle.checks.specs.Options.{effective, infoOf};
-ghost use Rattle.checks.specs.Area.{isDst};
+ghost use Rattle.master_info.specs.Diin.{diin};
+ghost use Rattle.build_options.specs.Options.{effective, infoOf};
+ghost use Rattle.build_options.specs.Area.{isDst};
 ghost use Rattle.layout.specs.Parts.{partsOf, propertiesOf};
 ghost use Rattle.layout.specs.Sides.{isSound, onSide, named, side, localBytes, localsBytes};
-use checks::area::Area;
-use checks::options::Options;
-use checks::options::Settings;
+use build_options::area::Area;
+use build_options::options::Options;
+use build_options::options::Settings;
 use chunk::Cursor;
-use chunk::names::InfoChunk;
-use chunk::names::LocalChunk;
-use chunk::names::PropertyChunk;
+use chunk_names::InfoChunk;
+use chunk_names::LocalChunk;
+use chunk_names::PropertyChunk;
 use prop::compression::Sound;
 use prop::property::Properties;
 
@@ -51,7 +51,7 @@ fn property_chunk(
 ) -> Cursor
     ensures { λ r. ⌜ Appended (now (out .entry)) (c .at) (bytes (property order (propertiesOf area options (effective options)))) (now (out .exit)) (r .at) ⌝ }
 {
-    let s = checks::options::effective(options);
+    let s = build_options::options::effective(options);
     let p = properties_of(area, options, s);
     prop::property::property(c, out, order, p)
 }
@@ -99,9 +99,9 @@ fn info_chunk(
         (bytes (diin (now (pool .entry)) (now (raw .entry)) (now (tracks .entry)) (now (markers .entry)) (infoOf area options (effective options)) order))
         (now (out .exit)) (r .at) ⌝ }
 {
-    let s = checks::options::effective(options);
-    let info = checks::options::info_of(area, options, s);
-    markers::diin::diin(c, out, pool, raw, tracks, markers, order, info)
+    let s = build_options::options::effective(options);
+    let info = build_options::options::info_of(area, options, s);
+    master_info::diin::diin(c, out, pool, raw, tracks, markers, order, info)
 }
 
 // A local chunk other than the sound.
@@ -149,8 +149,8 @@ fn local_chunk(
             );
         }
         LocalChunk::Comments => {
-            let text = checks::options::text_options(options);
-            return texts::comt::comt(c, out, pool, comments, text);
+            let text = build_options::options::text_options(options);
+            return comt::comt::comt(c, out, pool, comments, text);
         }
     }
 }

@@ -3,12 +3,12 @@ ghost use mathlib.Core.Path.{_≡_};
 ghost use Rattle.chunk.specs.Append.{Appended};
 ghost use Rattle.layout.specs.Parts.{partsOf};
 ghost use Rattle.layout.specs.Sides.{named, front, back};
-use checks::area::Area;
-use checks::options::Options;
+use build_options::area::Area;
+use build_options::options::Options;
 use chunk::Cursor;
-use chunk::names::InfoChunk;
-use chunk::names::LocalChunk;
-use chunk::names::PropertyChunk;
+use chunk_names::InfoChunk;
+use chunk_names::LocalChunk;
+use chunk_names::PropertyChunk;
 
 // The version of the format.
 const VERSION: [u8; 4] = [1, 5, 0, 0];

@@ -3,9 +3,9 @@ ghost use mathlib.Core.Path.{_≡_};
 ghost use Prim.Native.Nat.{_*_, _-_, _^_, min};
 ghost use Rattle.chunk.specs.Append.{Appended};
 ghost use Rattle.dst.specs.Frame.{frameBytes};
-ghost use Rattle.checks.specs.Area.{positions};
+ghost use Rattle.build_options.specs.Area.{positions};
 ghost use Rattle.layout.specs.Sound.{soundSize, soundHead};
-use checks::area::Area;
+use build_options::area::Area;
 use chunk::Cursor;
 use prop::compression::Sound;
 

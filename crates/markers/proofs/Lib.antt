@@ -1,13 +1,2 @@
-pub mod RowLaws
-pub mod TrackLaws
-pub mod OrderLaws
-pub mod ProgramLaws
-pub mod SourceLaws
 pub mod MarkerLaws
-pub mod DiinLaws
-pub mod ReadLaws
-pub mod ProgramExamples
 pub mod AllLaws
-pub mod InsideLaws
-pub mod SizeLaws
-pub mod DiinSizeLaws

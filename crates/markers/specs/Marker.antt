@@ -4,10 +4,10 @@ use Prim.Native.Nat.{ℕ, _+_, _-_}
 use mathlib.Core.List.{List, [], _++_}
 use lib.ListN.{length}
 use Rattle.chunk.specs.Number.{be}
-use Rattle.chunk.specs.Name.{ascii}
+use Rattle.chunk_names.specs.Name.{ascii}
 use Rattle.chunk.specs.Time.{timeOf, timeBytes}
 use Rattle.chunk.specs.Chunk.{counts}
-use Rattle.chunk.specs.Tree.{Chunks, stop, leaf}
+use Rattle.tree.specs.Tree.{Chunks, stop, leaf}
 use Rattle.texts.specs.Extent.{part}
 use Rattle.texts.specs.Text.{textBytes, textPad}
 use Rattle.texts.specs.declared.text.TextRule.{TextRule}

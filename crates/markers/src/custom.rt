@@ -2,7 +2,7 @@
 ghost use mathlib.Core.Path.{_≡_};
 ghost use lib.ListN.{length};
 ghost use Rattle.chunk.specs.Append.{Appended};
-ghost use Rattle.chunk.specs.Tree.{bytes, each};
+ghost use Rattle.tree.specs.Tree.{bytes, each};
 ghost use Rattle.markers.specs.Marker.{mark};
 ghost use Rattle.markers.specs.Custom.{kindOf, customOf, customs};
 use crate::marker::Marker;
@@ -48,7 +48,7 @@ fn custom_of(row: &[u32]) -> Marker
 }
 
 // The markers of all whole rows.
-pub(crate) fn custom(
+pub fn custom(
     c: Cursor,
     out: &mut [u8],
     pool: &[u32],

@@ -4,7 +4,7 @@ ghost use mathlib.Core.List.{_++_};
 ghost use lib.ListN.{length};
 ghost use Rattle.chunk.specs.Append.{Appended};
 ghost use Rattle.chunk.specs.Number.{be};
-ghost use Rattle.chunk.specs.Tree.{bytes};
+ghost use Rattle.tree.specs.Tree.{bytes};
 ghost use Rattle.texts.specs.Extent.{part};
 ghost use Rattle.texts.specs.Text.{textPad};
 ghost use Rattle.markers.specs.Marker.{kindNumber, flagsOf, markerText, frameOf, markHead, mark};

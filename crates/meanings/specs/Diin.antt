@@ -4,11 +4,11 @@ use mathlib.Core.Bool.{cond, not}
 use mathlib.Core.List.{List, map}
 use lib.Dec.{eqb}
 use lib.ListN.{getD}
-use Rattle.chunk.specs.declared.names.InfoChunk.{InfoChunk}
-use Rattle.chunk.specs.declared.names.InfoChunk.the-variants.{EditedMasterId, Markers, Artist, Title}
+use Rattle.chunk_names.specs.declared.InfoChunk.{InfoChunk}
+use Rattle.chunk_names.specs.declared.InfoChunk.the-variants.{EditedMasterId, Markers, Artist, Title}
 use Rattle.texts.specs.declared.diin_text.Text.{Text}
-use Rattle.markers.specs.declared.pick.ArtistTitleSource.{ArtistTitleSource}
-use Rattle.markers.specs.declared.pick.ArtistTitleSource.the-variants.{Album, Track, TrackThenAlbum}
+use Rattle.master_info.specs.declared.pick.ArtistTitleSource.{ArtistTitleSource}
+use Rattle.master_info.specs.declared.pick.ArtistTitleSource.the-variants.{Album, Track, TrackThenAlbum}
 use Rattle.meanings.specs.Text.{textOf}
 
 -- the text of three words: whether it is given (0: no), start, length

@@ -2,10 +2,10 @@
 use Prim.Native.Nat.{ℕ}
 use mathlib.Core.Bool.{Bool, cond}
 use lib.Dec.{eqb}
-use Rattle.checks.specs.declared.options.Switch.{Switch}
-use Rattle.checks.specs.declared.options.Switch.the-variants.{Unset, On, Off}
-use Rattle.checks.specs.declared.options.Replacement.{Replacement}
-use Rattle.checks.specs.declared.options.Replacement.the-variants.{Nothing, Byte}
+use Rattle.build_options.specs.declared.options.Switch.{Switch}
+use Rattle.build_options.specs.declared.options.Switch.the-variants.{Unset, On, Off}
+use Rattle.build_options.specs.declared.options.Replacement.{Replacement}
+use Rattle.build_options.specs.declared.options.Replacement.the-variants.{Nothing, Byte}
 
 -- 0 is unset, 1 on, any other off
 abbrev pub switchOf : ℕ → Switch

@@ -3,8 +3,8 @@ use Prim.Native.Nat.{ℕ}
 use mathlib.Core.Bool.{Bool, cond}
 use mathlib.Core.List.{List, map}
 use lib.Dec.{eqb}
-use Rattle.chunk.specs.declared.names.PropertyChunk.{PropertyChunk}
-use Rattle.chunk.specs.declared.names.PropertyChunk.the-variants.{SampleRate, Channels, CompressionType, AbsoluteStartTime, LoudspeakerConfiguration}
+use Rattle.chunk_names.specs.declared.PropertyChunk.{PropertyChunk}
+use Rattle.chunk_names.specs.declared.PropertyChunk.the-variants.{SampleRate, Channels, CompressionType, AbsoluteStartTime, LoudspeakerConfiguration}
 use Rattle.prop.specs.declared.compression.Sound.{Sound}
 use Rattle.prop.specs.declared.compression.Sound.the-variants.{Dsd, Dst}
 use Rattle.prop.specs.declared.layout.Layout.{Layout}

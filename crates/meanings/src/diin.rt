@@ -1,8 +1,8 @@
 // The numbers of DIIN.
 ghost use mathlib.Core.Path.{_≡_};
 ghost use Rattle.meanings.specs.Diin.{givenText, sourceOf, infoChunkOf, infoOrderOf};
-use chunk::names::InfoChunk;
-use markers::pick::ArtistTitleSource;
+use chunk_names::InfoChunk;
+use master_info::pick::ArtistTitleSource;
 use texts::diin_text::Text;
 
 // A text of three words: whether it is given (0: no), start, length.

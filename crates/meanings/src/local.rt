@@ -1,7 +1,7 @@
 // The numbers of the local chunks.
 ghost use mathlib.Core.Path.{_≡_};
 ghost use Rattle.meanings.specs.Local.{localChunkOf};
-use chunk::names::LocalChunk;
+use chunk_names::LocalChunk;
 
 // 0 is PROP, 1 the sound, 2 is DSTI, 3 is DIIN, any other is COMT.
 pub fn local_chunk(number: u8) -> LocalChunk

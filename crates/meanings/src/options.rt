@@ -1,8 +1,8 @@
 // The numbers of two options: a switch of three positions, and a byte that may be missing.
 ghost use mathlib.Core.Path.{_≡_};
 ghost use Rattle.meanings.specs.Options.{switchOf, replacementOf};
-use checks::options::Replacement;
-use checks::options::Switch;
+use build_options::options::Replacement;
+use build_options::options::Switch;
 
 // 0 is unset, 1 on, any other off.
 pub fn artist_title(number: u32) -> Switch

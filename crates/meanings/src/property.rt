@@ -1,7 +1,7 @@
 // The numbers of PROP.
 ghost use mathlib.Core.Path.{_≡_};
 ghost use Rattle.meanings.specs.Property.{soundOf, layoutOf, startOf, propertyChunkOf, propertyOrderOf};
-use chunk::names::PropertyChunk;
+use chunk_names::PropertyChunk;
 use prop::compression::Sound;
 use prop::layout::Layout;
 use prop::start::Start;

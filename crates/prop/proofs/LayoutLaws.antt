@@ -6,7 +6,7 @@ use native.Mathlib.Omega.{arith}
 use lib.ListN.{length, getD, take, length-append, drop-of-length-le}
 use lib.Seq.{drop-cons, length-take-le}
 use Rattle.chunk.specs.Number.{be}
-use Rattle.chunk.specs.Name.{Name}
+use Rattle.chunk_names.specs.Name.{Name}
 use Rattle.chunk.proofs.NumberLaws.{length-be}
 use Rattle.prop.specs.Layout.{numbersOf, channelName, channelCount, sixNames, channelNames}
 use Rattle.prop.specs.Property.{chnlData}

@@ -4,11 +4,11 @@ use mathlib.Core.Bool.{Bool, true, false}
 use mathlib.Core.List.{[], _∷_, _++_, flatMap}
 use lib.ListN.{length, take}
 use Rattle.chunk.specs.Number.{be}
-use Rattle.chunk.specs.Name.{ascii, propertyOrder}
+use Rattle.chunk_names.specs.Name.{ascii, propertyOrder}
 use Rattle.chunk.specs.Chunk.{pad, chunk, counts}
-use Rattle.chunk.specs.Tree.{bytes, join, each}
-use Rattle.chunk.specs.declared.names.PropertyChunk.{PropertyChunk}
-use Rattle.chunk.specs.declared.names.PropertyChunk.the-variants.{SampleRate, Channels, CompressionType, AbsoluteStartTime, LoudspeakerConfiguration}
+use Rattle.tree.specs.Tree.{bytes, join, each}
+use Rattle.chunk_names.specs.declared.PropertyChunk.{PropertyChunk}
+use Rattle.chunk_names.specs.declared.PropertyChunk.the-variants.{SampleRate, Channels, CompressionType, AbsoluteStartTime, LoudspeakerConfiguration}
 use Rattle.prop.specs.Layout.{numbersOf, digit, channelName, channelCount, sixNames, channelNames, speakerCode}
 use Rattle.prop.specs.Start.{isGiven}
 use Rattle.prop.specs.Compression.{compressionData, cmprData}

@@ -6,19 +6,19 @@ use Prim.Native.Nat.{ℕ, _+_, _%_, _^_, _≤_, _<_}
 use native.Mathlib.Omega.{arith}
 use lib.ListN.{length, length-append}
 use Rattle.chunk.specs.Number.{be}
-use Rattle.chunk.specs.Name.{Name, ascii, same}
+use Rattle.chunk_names.specs.Name.{Name, ascii, same}
 use Rattle.chunk.specs.Chunk.{pad, chunk, occupied, counts}
 use Rattle.chunk.specs.Time.{timeOf, timeBytes}
-use Rattle.chunk.specs.Tree.{bytes}
-use Rattle.chunk.specs.Value.{value}
-use Rattle.chunk.specs.declared.names.PropertyChunk.{PropertyChunk}
-use Rattle.chunk.specs.declared.names.PropertyChunk.the-variants.{SampleRate, Channels, CompressionType, AbsoluteStartTime, LoudspeakerConfiguration}
+use Rattle.tree.specs.Tree.{bytes}
+use Rattle.tree.specs.Value.{value}
+use Rattle.chunk_names.specs.declared.PropertyChunk.{PropertyChunk}
+use Rattle.chunk_names.specs.declared.PropertyChunk.the-variants.{SampleRate, Channels, CompressionType, AbsoluteStartTime, LoudspeakerConfiguration}
 use Rattle.chunk.specs.declared.time.FrameTime.{FrameTime}
 use Rattle.chunk.proofs.NumberLaws.{length-be}
 use Rattle.chunk.proofs.ChunkLaws.{length-chunk, length-counts}
 use Rattle.chunk.proofs.ListLaws.{flatMap-bound}
-use Rattle.chunk.proofs.TreeLaws.{bytes-leaf, bytes-each}
-use Rattle.chunk.proofs.ValueLaws.{counted-text}
+use Rattle.tree.proofs.TreeLaws.{bytes-leaf, bytes-each}
+use Rattle.tree.proofs.ValueLaws.{counted-text}
 use Rattle.prop.specs.Layout.{speakerCode}
 use Rattle.prop.specs.Start.{startFrame}
 use Rattle.prop.specs.Compression.{compressionData, cmprData}

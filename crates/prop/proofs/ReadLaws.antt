@@ -3,13 +3,13 @@ use mathlib.Core.Path.{refl}
 use mathlib.Core.Bool.{Bool}
 use mathlib.Core.List.{List}
 use Prim.Native.Nat.{ℕ}
-use Rattle.chunk.specs.Name.{Name, ascii, same}
-use Rattle.chunk.specs.Tree.{stop, leaf}
-use Rattle.chunk.specs.Reader.{Shaped}
-use Rattle.chunk.specs.Value.{inner, dsdiff}
-use Rattle.chunk.specs.declared.names.PropertyChunk.{PropertyChunk}
-use Rattle.chunk.specs.declared.names.PropertyChunk.the-variants.{SampleRate, Channels, CompressionType, AbsoluteStartTime, LoudspeakerConfiguration}
-use Rattle.chunk.proofs.TreeLaws.{shaped-each, shaped-if}
+use Rattle.chunk_names.specs.Name.{Name, ascii, same}
+use Rattle.tree.specs.Tree.{stop, leaf}
+use Rattle.tree.specs.Reader.{Shaped}
+use Rattle.tree.specs.Value.{inner, dsdiff}
+use Rattle.chunk_names.specs.declared.PropertyChunk.{PropertyChunk}
+use Rattle.chunk_names.specs.declared.PropertyChunk.the-variants.{SampleRate, Channels, CompressionType, AbsoluteStartTime, LoudspeakerConfiguration}
+use Rattle.tree.proofs.TreeLaws.{shaped-each, shaped-if}
 use Rattle.prop.specs.Property.{idOf, contentOf, isWritten, propertyChunk, property}
 use Rattle.prop.specs.declared.property.Properties.{Properties}
 

@@ -4,7 +4,7 @@ use Prim.Native.Nat.{ℕ}
 use mathlib.Core.Bool.{Bool, cond}
 use mathlib.Core.List.{List, [], _++_}
 use lib.ListN.{length}
-use Rattle.chunk.specs.Name.{Name, ascii}
+use Rattle.chunk_names.specs.Name.{Name, ascii}
 use Rattle.chunk.specs.Chunk.{pad, counts}
 use Rattle.prop.specs.declared.compression.Sound.{Sound}
 use Rattle.prop.specs.declared.compression.Sound.the-variants.{Dsd, Dst}

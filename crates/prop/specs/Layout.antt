@@ -4,7 +4,7 @@ use Prim.Native.Nat.{ℕ, _+_, _/_, _%_, min}
 use mathlib.Core.Bool.{cond}
 use mathlib.Core.List.{List, [], _∷_, _++_, map}
 use lib.ListN.{take, replicate}
-use Rattle.chunk.specs.Name.{Name, ascii, stereo, threeTwo, fivePointOne}
+use Rattle.chunk_names.specs.Name.{Name, ascii, stereo, threeTwo, fivePointOne}
 use Rattle.prop.specs.declared.layout.Layout.{Layout}
 use Rattle.prop.specs.declared.layout.Layout.the-variants.{Stereo, ThreeTwo, FivePointOne, Unspecified}
 use Rattle.prop.specs.declared.layout.ChannelNumbers.{ChannelNumbers}

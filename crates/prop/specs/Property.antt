@@ -5,11 +5,11 @@ use mathlib.Core.Bool.{Bool, true, cond}
 use mathlib.Core.List.{List, _++_, flatMap}
 use lib.ListN.{length}
 use Rattle.chunk.specs.Number.{be}
-use Rattle.chunk.specs.Name.{Name, ascii}
+use Rattle.chunk_names.specs.Name.{Name, ascii}
 use Rattle.chunk.specs.Time.{timeOf, timeBytes}
-use Rattle.chunk.specs.Tree.{Chunks, stop, leaf, node, each}
-use Rattle.chunk.specs.declared.names.PropertyChunk.{PropertyChunk}
-use Rattle.chunk.specs.declared.names.PropertyChunk.the-variants.{SampleRate, Channels, CompressionType, AbsoluteStartTime, LoudspeakerConfiguration}
+use Rattle.tree.specs.Tree.{Chunks, stop, leaf, node, each}
+use Rattle.chunk_names.specs.declared.PropertyChunk.{PropertyChunk}
+use Rattle.chunk_names.specs.declared.PropertyChunk.the-variants.{SampleRate, Channels, CompressionType, AbsoluteStartTime, LoudspeakerConfiguration}
 use Rattle.prop.specs.declared.layout.Layout.{Layout}
 use Rattle.prop.specs.declared.layout.Layout.the-variants.{Stereo, ThreeTwo, FivePointOne, Unspecified}
 use Rattle.prop.specs.declared.property.Properties.{Properties}

@@ -84,15 +84,15 @@ pub fn channels(layout: Layout, numbers: ChannelNumbers) -> [[u8; 4]; 6]
 {
     match layout {
         Layout::Stereo => {
-            let s = chunk::names::stereo();
+            let s = chunk_names::stereo();
             return [s[0], s[1], UNUSED, UNUSED, UNUSED, UNUSED];
         }
         Layout::ThreeTwo => {
-            let s = chunk::names::three_two();
+            let s = chunk_names::three_two();
             return [s[0], s[1], s[2], s[3], s[4], UNUSED];
         }
         Layout::FivePointOne => {
-            return chunk::names::five_point_one();
+            return chunk_names::five_point_one();
         }
         Layout::Unspecified => {
             return unspecified(numbers);

@@ -5,15 +5,15 @@ ghost use Prim.Native.Nat.{_≤_};
 ghost use lib.ListN.{take};
 ghost use Rattle.chunk.specs.Append.{Appended};
 ghost use Rattle.chunk.specs.Number.{be};
-ghost use Rattle.chunk.specs.Name.{Name, ascii};
-ghost use Rattle.chunk.specs.Tree.{bytes};
+ghost use Rattle.chunk_names.specs.Name.{Name, ascii};
+ghost use Rattle.tree.specs.Tree.{bytes};
 ghost use Rattle.prop.specs.Property.{lscoIsOn, idOf, contentOf, isWritten, propertyChunk, propertyChunks, property};
 use crate::compression::Sound;
 use crate::layout::ChannelNumbers;
 use crate::layout::Layout;
 use crate::start::Start;
 use chunk::Cursor;
-use chunk::names::PropertyChunk;
+use chunk_names::PropertyChunk;
 
 const SAMPLE_RATE: u32 = 2_822_400;
 

@@ -3,9 +3,9 @@ ghost use mathlib.Core.Path.{_≡_};
 ghost use mathlib.Core.Bool.{cond};
 ghost use mathlib.Core.List.{map};
 ghost use Rattle.refusal.specs.Orders.{propertyRank, infoRank, localRank, times, eachOnce};
-use chunk::names::InfoChunk;
-use chunk::names::LocalChunk;
-use chunk::names::PropertyChunk;
+use chunk_names::InfoChunk;
+use chunk_names::LocalChunk;
+use chunk_names::PropertyChunk;
 
 fn property_rank(part: PropertyChunk) -> u32
     ensures { λ r. ⌜ r ≡ propertyRank part ⌝ }

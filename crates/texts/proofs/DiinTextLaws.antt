@@ -7,12 +7,12 @@ use Prim.Native.Nat.{ℕ, _+_, _%_, _≤_}
 use native.Mathlib.Omega.{arith}
 use lib.ListN.{length, length-append}
 use Rattle.chunk.specs.Number.{be}
-use Rattle.chunk.specs.Name.{Name}
+use Rattle.chunk_names.specs.Name.{Name}
 use Rattle.chunk.specs.Chunk.{pad, chunk, counts}
-use Rattle.chunk.specs.Tree.{stop, leaf, bytes}
-use Rattle.chunk.specs.Reader.{Reader, Shaped}
+use Rattle.tree.specs.Tree.{stop, leaf, bytes}
+use Rattle.tree.specs.Reader.{Reader, Shaped}
 use Rattle.chunk.proofs.ChunkLaws.{length-pad, pad-even, pad-parity, length-counts}
-use Rattle.chunk.proofs.TreeLaws.{bytes-stop, bytes-leaf, shaped-if}
+use Rattle.tree.proofs.TreeLaws.{bytes-stop, bytes-leaf, shaped-if}
 use Rattle.texts.specs.Extent.{part}
 use Rattle.texts.specs.Text.{textBytes, textPad, isWritten}
 use Rattle.texts.specs.DiinText.{diinTextData, givenText, diinText, givenTextChunk, diinTextChunk}

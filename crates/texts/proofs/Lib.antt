@@ -1,6 +1,5 @@
 pub mod ExtentLaws
 pub mod TextLaws
 pub mod DiinTextLaws
-pub mod CommentLaws
 pub mod ValueLaws
 pub mod TextExamples

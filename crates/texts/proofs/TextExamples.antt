@@ -1,18 +1,14 @@
--- Texts and comments, worked out by the definitions: converted bytes by each rule, a title with its pad counted and not, a COMT, and what a
--- reader gets of it. Assumes nothing.
+-- Texts, worked out by the definitions: converted bytes by each rule, a title with its pad counted and not. Assumes nothing.
 use mathlib.Core.Path.{_≡_, refl}
 use mathlib.Core.Bool.{Bool, true, false}
 use mathlib.Core.List.{List, [], _∷_, _++_, flatMap}
 use Prim.Native.Nat.{ℕ}
-use Rattle.chunk.specs.Number.{be, num}
-use Rattle.chunk.specs.Name.{ascii, same}
+use Rattle.chunk.specs.Number.{be}
+use Rattle.chunk_names.specs.Name.{ascii}
 use Rattle.chunk.specs.Chunk.{pad, chunk, counts}
-use Rattle.chunk.specs.Value.{comments, value}
-use Rattle.chunk.specs.Rows.{firstRows, rows}
 use Rattle.texts.specs.Extent.{part}
 use Rattle.texts.specs.Text.{printable, latin1, passes, substitute, textByte, textBytes, textPad, isWritten}
 use Rattle.texts.specs.DiinText.{diinTextData, givenText, diinText}
-use Rattle.texts.specs.Comment.{commentOf, referenceOf, commentHead, asWritten, writtenComment, writtenComments, commentBytes, comtData, hasComt, comt}
 use Rattle.texts.specs.declared.text.TextRule.the-variants.{Replace, Remove, D2}
 use Rattle.texts.specs.declared.text.TextOptions.{TextOptions}
 use Rattle.texts.specs.declared.diin_text.Text.the-variants.{Given}
@@ -34,10 +30,10 @@ unfolding edges textBytes textByte passes substitute printable latin1 flatMap
 under-d2 = refl
 
 -- a pool with a title of three values, one of which vanishes, a note, and a text of which nothing is left
-pool : List ℕ
+unfoldable pub pool : List ℕ
 pool = ascii "Om" ++ (0x7F ∷ []) ++ ascii "odd" ++ (0x1F ∷ [])
 
-abbrev options : Bool → TextOptions
+abbrev pub options : Bool → TextOptions
 options padCounted = record { rule = Remove; «empty_text» = false; «text_pad_counted» = padCounted }
 
 -- the pad of an odd title, outside the size and inside it
@@ -60,23 +56,3 @@ title-cut = refl
 title-empty : diinText (ascii "DITI") pool (Given (record { start = 6; length = 1 })) (options false) ≡ []
 unfolding pool diinText givenText diinTextData textPad counts isWritten textBytes textByte passes substitute printable part flatMap
 title-empty = refl
-
--- a general comment, whose reference is not written; one of which nothing is left; one of kind 3 with an odd text; and the beginning of a row
-words : List ℕ
-words =
-    2024 ∷ 6 ∷ 11 ∷ 12 ∷ 34 ∷ 0 ∷ 9 ∷ 0 ∷ 3 ∷ (2024 ∷ 6 ∷ 11 ∷ 12 ∷ 34 ∷ 0 ∷ 0 ∷ 6 ∷ 1 ∷ (1 ∷ 2 ∷ 3 ∷ 4 ∷ 5 ∷ 3 ∷ 4 ∷ 3 ∷ 3 ∷ (2024 ∷ 6 ∷ [])))
-
-two-comments : comt pool words (options false)
-    ≡ ascii "COMT" ++ (0 ∷ 0 ∷ 0 ∷ 0 ∷ 0 ∷ 0 ∷ 0 ∷ 36 ∷ 0 ∷ 2 ∷ [])
-    ++ (7 ∷ 232 ∷ 6 ∷ 11 ∷ 12 ∷ 34 ∷ 0 ∷ 0 ∷ 0 ∷ 0 ∷ 0 ∷ 0 ∷ 0 ∷ 2 ∷ []) ++ ascii "Om"
-    ++ (0 ∷ 1 ∷ 2 ∷ 3 ∷ 4 ∷ 5 ∷ 0 ∷ 3 ∷ 0 ∷ 4 ∷ 0 ∷ 0 ∷ 0 ∷ 3 ∷ []) ++ ascii "odd" ++ (0 ∷ [])
-unfolding pool words comt comtData hasComt writtenComments writtenComment asWritten commentOf commentHead referenceOf commentBytes rows firstRows textPad counts isWritten textBytes textByte passes substitute printable part flatMap chunk pad be
-two-comments = refl
-
--- what a reader gets of it: the same without the pad
-two-comments-read : value (ascii "FRM8") (ascii "COMT") (comtData (writtenComments pool words (options false)))
-    ≡ (0 ∷ 2 ∷ [])
-    ++ (7 ∷ 232 ∷ 6 ∷ 11 ∷ 12 ∷ 34 ∷ 0 ∷ 0 ∷ 0 ∷ 0 ∷ 0 ∷ 0 ∷ 0 ∷ 2 ∷ []) ++ ascii "Om"
-    ++ (0 ∷ 1 ∷ 2 ∷ 3 ∷ 4 ∷ 5 ∷ 0 ∷ 3 ∷ 0 ∷ 4 ∷ 0 ∷ 0 ∷ 0 ∷ 3 ∷ []) ++ ascii "odd"
-unfolding pool words comtData writtenComments writtenComment asWritten commentOf commentHead referenceOf commentBytes rows firstRows textPad counts isWritten textBytes textByte passes substitute printable part flatMap pad be num same value comments
-two-comments-read = refl

@@ -3,9 +3,9 @@ use Prim.Native.Nat.{ℕ}
 use mathlib.Core.Bool.{cond}
 use mathlib.Core.List.{List, [], _++_}
 use lib.ListN.{length}
-use Rattle.chunk.specs.Name.{Name}
+use Rattle.chunk_names.specs.Name.{Name}
 use Rattle.chunk.specs.Chunk.{chunk, counts}
-use Rattle.chunk.specs.Tree.{Chunks, stop, leaf}
+use Rattle.tree.specs.Tree.{Chunks, stop, leaf}
 use Rattle.texts.specs.Extent.{part}
 use Rattle.texts.specs.Text.{textBytes, textPad, isWritten}
 use Rattle.texts.specs.declared.text.TextOptions.{TextOptions}

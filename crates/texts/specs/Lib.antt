@@ -1,4 +1,3 @@
 pub mod Extent
 pub mod Text
 pub mod DiinText
-pub mod Comment

@@ -83,7 +83,7 @@ pub fn text_bytes(c: Cursor, out: &mut [u8], rule: TextRule, pool: &[u32], text:
 }
 
 // A text with its count, which the caller has measured.
-pub(crate) fn counted_text(
+pub fn counted_text(
     c: Cursor,
     out: &mut [u8],
     count: u32,

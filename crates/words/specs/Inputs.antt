@@ -3,8 +3,8 @@ use Prim.Native.Nat.{ℕ}
 use mathlib.Core.List.{List, [], _∷_}
 use Rattle.prop.specs.declared.layout.ChannelNumbers.{ChannelNumbers}
 use Rattle.checks.specs.Inputs.{Inputs}
-use Rattle.checks.specs.declared.area.Area.{Area}
-use Rattle.checks.specs.declared.options.Options.{Options}
+use Rattle.build_options.specs.declared.area.Area.{Area}
+use Rattle.build_options.specs.declared.options.Options.{Options}
 use Rattle.meanings.specs.Sound.{offsetOf}
 use Rattle.meanings.specs.Property.{soundOf, layoutOf, startOf, propertyOrderOf}
 use Rattle.meanings.specs.Diin.{sourceOf, infoOrderOf}

@@ -6,9 +6,9 @@ use crate::word::half;
 use crate::word::is_set;
 use crate::word::text_at;
 use crate::word::word;
-use checks::area::Area;
-use checks::options::Options;
-use markers::pick::ArtistTitle;
+use build_options::area::Area;
+use build_options::options::Options;
+use master_info::pick::ArtistTitle;
 use prop::layout::ChannelNumbers;
 
 pub fn area_of(words: &[u32]) -> Area

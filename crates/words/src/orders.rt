@@ -5,9 +5,9 @@ ghost use Rattle.meanings.specs.Diin.{infoOrderOf};
 ghost use Rattle.meanings.specs.Local.{localOrderOf};
 ghost use Rattle.words.specs.Word.{bytesOf};
 use crate::word::byte;
-use chunk::names::InfoChunk;
-use chunk::names::LocalChunk;
-use chunk::names::PropertyChunk;
+use chunk_names::InfoChunk;
+use chunk_names::LocalChunk;
+use chunk_names::PropertyChunk;
 
 pub fn property_order(words: &[u32]) -> [PropertyChunk; 5]
     ensures { λ r. ⌜ r ≡ propertyOrderOf (bytesOf (now (words .entry)) 52 5) ⌝ }

@@ -49,21 +49,21 @@ use denote.Triple.Clauses.{ensured, lasts}
 use denote.Triple.Table.{entered, cited}
 use denote.Triple.Walked.{says, Stays, stay-dropped, gave-slice, walkOf, Walks, ends-at, walked, goes-gave-slice, walk-meets}
 use denote.Exit.{yes}
-use Rattle.chunk.specs.declared.names.PropertyChunk.{PropertyChunk}
-use Rattle.chunk.specs.declared.names.InfoChunk.{InfoChunk}
-use Rattle.chunk.specs.declared.names.LocalChunk.{LocalChunk}
-use Rattle.chunk.proofs.names.PropertyChunk as Pc
-use Rattle.chunk.proofs.names.PropertyChunk.Laws as Pc′
-use Rattle.chunk.proofs.names.InfoChunk as Ic
-use Rattle.chunk.proofs.names.InfoChunk.Laws as Ic′
-use Rattle.chunk.proofs.names.LocalChunk as Lc
-use Rattle.chunk.proofs.names.LocalChunk.Laws as Lc′
-use Rattle.checks.specs.declared.area.Area.{Area}
-use Rattle.checks.specs.declared.options.Options.{Options}
-use Rattle.checks.proofs.area.Area as Ar
-use Rattle.checks.proofs.area.Area.Laws as Ar′
-use Rattle.checks.proofs.options.Options as Op
-use Rattle.checks.proofs.options.Options.Laws as Op′
+use Rattle.chunk_names.specs.declared.PropertyChunk.{PropertyChunk}
+use Rattle.chunk_names.specs.declared.InfoChunk.{InfoChunk}
+use Rattle.chunk_names.specs.declared.LocalChunk.{LocalChunk}
+use Rattle.chunk_names.proofs.PropertyChunk as Pc
+use Rattle.chunk_names.proofs.PropertyChunk.Laws as Pc′
+use Rattle.chunk_names.proofs.InfoChunk as Ic
+use Rattle.chunk_names.proofs.InfoChunk.Laws as Ic′
+use Rattle.chunk_names.proofs.LocalChunk as Lc
+use Rattle.chunk_names.proofs.LocalChunk.Laws as Lc′
+use Rattle.build_options.specs.declared.area.Area.{Area}
+use Rattle.build_options.specs.declared.options.Options.{Options}
+use Rattle.build_options.proofs.area.Area as Ar
+use Rattle.build_options.proofs.area.Area.Laws as Ar′
+use Rattle.build_options.proofs.options.Options as Op
+use Rattle.build_options.proofs.options.Options.Laws as Op′
 use Rattle.assemble.specs.declared.build.Answer.{Answer}
 use Rattle.dsdiff.specs.declared.marker.Marker.{Marker}
 use Rattle.assemble.specs.Build.{inputsOf, Builds}

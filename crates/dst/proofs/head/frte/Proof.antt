@@ -2,7 +2,7 @@
 use mathlib.Core.Path.{_≡_}
 use lib.ListN.{length, length-append}
 use borrow.Author.Needs.{needs}
-use Rattle.chunk.specs.Name.{ascii}
+use Rattle.chunk_names.specs.Name.{ascii}
 use Rattle.chunk.specs.Chunk.{pad}
 use Rattle.chunk.proofs.AppendLaws.{_then_, none}
 use Rattle.chunk.proofs.NumberLaws.{length-be}

@@ -9,7 +9,7 @@ use borrow.Author.Needs.{needs}
 use Rattle.chunk.specs.Append.{Appended, moved}
 use Rattle.chunk.proofs.AppendLaws.{_then_, none}
 use Rattle.dst.specs.Unit.{sizes}
-use Rattle.dst.specs.Place.{start}
+use Rattle.dst.specs.Start.{start}
 use Rattle.dst.specs.Index.{index}
 use Rattle.dst.proofs.StartLaws.{start-zero}
 use Rattle.dst.proofs.UnitLaws.{start-next}

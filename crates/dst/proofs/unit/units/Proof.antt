@@ -6,7 +6,7 @@ use native.Mathlib.Omega.{arith}
 use lib.ListN.{length, length-map}
 use borrow.Author.Needs.{needs}
 use Rattle.dst.specs.Unit.{unitSize, sizes}
-use Rattle.dst.specs.Place.{start}
+use Rattle.dst.specs.Start.{start}
 use Rattle.dst.proofs.StartLaws.{start-zero, start-all}
 use Rattle.dst.proofs.UnitLaws.{start-next}
 use Rattle.dst.proofs.unit.units.Statement.{statement}

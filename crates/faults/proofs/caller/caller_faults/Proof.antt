@@ -28,5 +28,5 @@ returns c =
 pub caller-faults-spec : {M : Type 1} → statement M
 caller-faults-spec =
     tie.close
-    (tie.spec Inv-loop μ-loop (λ c κs. tt) (λ c. (search needs, below-none _ _ _)) (λ c κs. search needs) (λ c κs. tt) (λ c κs. tt) (λ c κs. tt) (λ c. search needs)
+    (tie.spec Inv-loop μ-loop (λ c κs. tt) (λ c. (search needs, below-none _ _ _)) (λ c κs. tt) (λ c κs. tt) (λ c κs. tt) (λ c κs. tt) (λ c. search needs)
     (λ c. search needs) loop-again returns)

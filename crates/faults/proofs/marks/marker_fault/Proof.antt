@@ -1,5 +1,4 @@
 -- `marks::marker_fault` meets its contract. Assumes nothing.
-use borrow.Author.Needs.{needs}
 use Rattle.faults.proofs.marks.marker_fault.Statement.{statement}
 use Rattle.faults.proofs.marks.marker_fault.Tie as tie
 
@@ -19,4 +18,4 @@ returns c =
 pub marker-fault-spec : {M : Type 1} → statement M
 marker-fault-spec =
     tie.close
-    (tie.spec (λ c κs. search needs) (λ c κs. search needs) (λ c κs. tt) (λ c κs. tt) (λ c κs. tt) (λ c κs. tt) returns)
+    (tie.spec (λ c κs. tt) (λ c κs. tt) (λ c κs. tt) (λ c κs. tt) (λ c κs. tt) (λ c κs. tt) returns)

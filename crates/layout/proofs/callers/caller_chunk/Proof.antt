@@ -6,7 +6,7 @@ use borrow.Author.Needs.{needs}
 use denote.Ref.{now}
 use lib.ListN.{length, take, drop, getD, length-take, length-drop}
 use Rattle.chunk.proofs.ChunkLaws.{chunked}
-use Rattle.chunk.proofs.TreeLaws.{bytes-leaf}
+use Rattle.tree.proofs.TreeLaws.{bytes-leaf}
 use Rattle.texts.specs.Extent.{part}
 use Rattle.texts.specs.declared.extent.Extent.{Extent}
 use Rattle.texts.proofs.ExtentLaws.{part-places}

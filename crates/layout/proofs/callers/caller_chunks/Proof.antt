@@ -5,7 +5,7 @@ use borrow.Author.Needs.{needs}
 use denote.Ref.{now}
 use lib.ListN.{length}
 use Rattle.chunk.specs.Append.{Appended}
-use Rattle.chunk.specs.Tree.{bytes, each}
+use Rattle.tree.specs.Tree.{bytes, each}
 use Rattle.chunk.proofs.AppendLaws.{_then_, none}
 use Rattle.chunk.proofs.RowsLaws.{row-words}
 use Rattle.layout.proofs.CallerLaws.{row-whole, firstChunks, callers-next, callers-all}

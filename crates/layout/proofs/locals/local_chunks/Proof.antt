@@ -8,7 +8,7 @@ use native.Mathlib.Omega.{arith}
 use borrow.Author.Needs.{needs}
 use lib.ListN.{length, take}
 use Rattle.chunk.specs.Append.{Appended}
-use Rattle.chunk.specs.declared.names.LocalChunk.the-variants.{Property}
+use Rattle.chunk_names.specs.declared.LocalChunk.the-variants.{Property}
 use Rattle.chunk.proofs.AppendLaws.{none}
 use Rattle.layout.specs.Parts.{partsOf}
 use Rattle.layout.specs.Sides.{hasSound, side, localsBytes}

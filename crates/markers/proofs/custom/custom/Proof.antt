@@ -5,13 +5,13 @@ use borrow.Author.Needs.{needs}
 use denote.Ref.{now}
 use lib.ListN.{length, take, drop}
 use Rattle.chunk.specs.Append.{Appended}
-use Rattle.chunk.specs.Tree.{bytes, each}
+use Rattle.tree.specs.Tree.{bytes, each}
 use Rattle.chunk.proofs.AppendLaws.{_then_, none}
 use Rattle.chunk.proofs.RowsLaws.{row-words, mapped-next, mapped-all}
-use Rattle.chunk.proofs.TreeLaws.{bytes-each-append, bytes-each-one}
+use Rattle.tree.proofs.TreeLaws.{bytes-each-append, bytes-each-one}
 use Rattle.markers.specs.Marker.{mark}
 use Rattle.markers.specs.Custom.{customOf, customs}
-use Rattle.markers.proofs.RowLaws.{row-whole}
+use Rattle.tracks.proofs.RowLaws.{row-whole}
 use Rattle.markers.proofs.custom.custom.Statement.{statement}
 use Rattle.markers.proofs.custom.custom.Tie as tie
 

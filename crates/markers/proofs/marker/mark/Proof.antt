@@ -1,11 +1,11 @@
 -- `marker::mark` meets its contract: a chunk whose size is measured. Assumes nothing.
 use native.Mathlib.Omega.{arith}
 use denote.Ref.{now}
-use Rattle.chunk.specs.Name.{ascii}
+use Rattle.chunk_names.specs.Name.{ascii}
 use Rattle.chunk.specs.Chunk.{counts}
 use Rattle.chunk.proofs.AppendLaws.{measured}
 use Rattle.chunk.proofs.ChunkLaws.{chunked}
-use Rattle.chunk.proofs.TreeLaws.{bytes-leaf}
+use Rattle.tree.proofs.TreeLaws.{bytes-leaf}
 use Rattle.markers.specs.Marker.{mark, markData, markerText}
 use Rattle.markers.proofs.MarkerLaws.{length-markData}
 use borrow.Author.Needs.{needs}

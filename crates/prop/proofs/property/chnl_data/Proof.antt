@@ -6,7 +6,7 @@ use native.Mathlib.Numerals.{add-one}
 use borrow.Author.Needs.{needs}
 use lib.ListN.{length, take}
 use Rattle.chunk.specs.Append.{Appended}
-use Rattle.chunk.specs.Name.{Name}
+use Rattle.chunk_names.specs.Name.{Name}
 use Rattle.chunk.proofs.AppendLaws.{_then_, none}
 use Rattle.chunk.proofs.ListLaws.{flatMap-take}
 use Rattle.prop.proofs.property.chnl_data.Statement.{statement}

@@ -1,9 +1,9 @@
 -- `property::property` meets its contract: a chunk whose size is measured. Assumes nothing.
-use Rattle.chunk.proofs.TreeLaws.{bytes-node}
+use Rattle.tree.proofs.TreeLaws.{bytes-node}
 use Rattle.chunk.proofs.ChunkLaws.{chunked}
 use Rattle.chunk.proofs.AppendLaws.{measured}
-use Rattle.chunk.specs.Tree.{bytes}
-use Rattle.chunk.specs.Name.{ascii}
+use Rattle.tree.specs.Tree.{bytes}
+use Rattle.chunk_names.specs.Name.{ascii}
 use Rattle.prop.proofs.PropertyLaws.{property-short}
 use Rattle.prop.specs.Property.{property, propertyChunks}
 use lib.ListN.{length}

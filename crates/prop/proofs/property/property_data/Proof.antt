@@ -5,10 +5,10 @@ use borrow.Author.Needs.{needs}
 use lib.ListN.{length, take}
 use lib.Seq.{take-all}
 use Rattle.chunk.specs.Append.{Appended}
-use Rattle.chunk.specs.Tree.{bytes, each}
-use Rattle.chunk.specs.declared.names.PropertyChunk.the-variants.{SampleRate}
+use Rattle.tree.specs.Tree.{bytes, each}
+use Rattle.chunk_names.specs.declared.PropertyChunk.the-variants.{SampleRate}
 use Rattle.chunk.proofs.AppendLaws.{_then_, none}
-use Rattle.chunk.proofs.TreeLaws.{bytes-each-next}
+use Rattle.tree.proofs.TreeLaws.{bytes-each-next}
 use Rattle.prop.specs.Property.{propertyChunk}
 use Rattle.prop.proofs.property.property_data.Statement.{statement}
 use Rattle.prop.proofs.property.property_data.Tie as tie

@@ -1,0 +1,2 @@
+pub mod Options
+pub mod Area

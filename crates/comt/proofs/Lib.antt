@@ -1,0 +1,3 @@
+pub mod CommentLaws
+pub mod ValueLaws
+pub mod CommentExamples

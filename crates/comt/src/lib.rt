@@ -1,0 +1,2 @@
+// The comments of a file: COMT.
+pub mod comt; // comt.rt: COMT

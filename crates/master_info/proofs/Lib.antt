@@ -1,0 +1,3 @@
+pub mod DiinLaws
+pub mod ReadLaws
+pub mod DiinSizeLaws

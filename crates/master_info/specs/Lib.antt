@@ -1,0 +1,2 @@
+pub mod Pick
+pub mod Diin

@@ -1,0 +1,4 @@
+pub mod Limits
+pub mod Property
+pub mod Info
+pub mod Local

@@ -1,0 +1,4 @@
+pub mod Place
+pub mod Positions
+pub mod Lent
+pub mod Fill
