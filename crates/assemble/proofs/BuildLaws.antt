@@ -13,9 +13,9 @@ use Rattle.chunk.proofs.AppendLaws.{overlay-room}
 use Rattle.refusal.specs.declared.verdict.Verdict.{Verdict}
 use Rattle.refusal.specs.declared.verdict.Verdict.the-variants.{Accepted, Refused}
 use Rattle.checks.specs.Inputs.{Inputs, verdict}
-use Rattle.layout.specs.File.{frontOf, backOf, place, soundLength, formSize, headerOf, trailerOf, Ordered}
-use Rattle.layout.proofs.FileLaws.{length-front, length-back, length-header}
-use Rattle.layout.proofs.SizeLaws.{front-low, back-low, sound-low}
+use Rattle.file_layout.specs.File.{frontOf, backOf, place, soundLength, formSize, headerOf, trailerOf, Ordered}
+use Rattle.file_layout.proofs.FileLaws.{length-front, length-back, length-header}
+use Rattle.file_layout.proofs.SizeLaws.{front-low, back-low, sound-low}
 use Rattle.assemble.specs.declared.build.Answer.{Answer}
 use Rattle.assemble.specs.declared.build.Answer.the-variants as answer
 use Rattle.assemble.specs.declared.build.Lengths.{Lengths}

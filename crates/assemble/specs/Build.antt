@@ -14,7 +14,7 @@ use Rattle.refusal.specs.declared.verdict.Verdict.the-variants.{Accepted, Refus
 use Rattle.build_options.specs.declared.area.Area.{Area}
 use Rattle.build_options.specs.declared.options.Options.{Options}
 use Rattle.checks.specs.Inputs.{Inputs, verdict}
-use Rattle.layout.specs.File.{soundLength, headerOf, trailerOf, Ordered}
+use Rattle.file_layout.specs.File.{soundLength, headerOf, trailerOf, Ordered}
 use Rattle.assemble.specs.declared.build.Answer.{Answer}
 use Rattle.assemble.specs.declared.build.Answer.the-variants as answer
 

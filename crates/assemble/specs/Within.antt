@@ -7,7 +7,7 @@ use Rattle.chunk.specs.Append.{overlay, moved}
 use Rattle.chunk.specs.Number.{be}
 use Rattle.chunk_names.specs.Name.{ascii}
 use Rattle.checks.specs.Inputs.{Inputs}
-use Rattle.layout.specs.File.{frontOf, backOf, Ordered}
+use Rattle.file_layout.specs.File.{frontOf, backOf, Ordered}
 use Rattle.assemble.specs.declared.build.Lengths.{Lengths}
 
 -- the lengths of FRM8's data before the sound, and of the trailer, at most the largest usize

@@ -7,7 +7,7 @@ ghost use Rattle.chunk.specs.Number.{be};
 ghost use Rattle.chunk_names.specs.Name.{ascii};
 ghost use Rattle.refusal.specs.declared.verdict.Verdict.the-variants.{Accepted};
 ghost use Rattle.checks.specs.Inputs.{verdict};
-ghost use Rattle.layout.specs.File.{frontOf, backOf};
+ghost use Rattle.file_layout.specs.File.{frontOf, backOf};
 ghost use Rattle.assemble.specs.Answer.{numberOf, valuesOf};
 ghost use Rattle.assemble.specs.Build.{inputsOf, Builds, LaysOut};
 ghost use Rattle.assemble.specs.Within.{Measured, Filled};
@@ -96,7 +96,7 @@ fn measure(
 {
     let mut empty = [0u8; 0];
     let start = Cursor::new();
-    let front = layout::sides::front(
+    let front = file_layout::sides::front(
         start,
         &mut empty,
         0,
@@ -113,7 +113,7 @@ fn measure(
         comments,
         lengths,
     );
-    let back = layout::sides::back(
+    let back = file_layout::sides::back(
         start,
         &mut empty,
         0,
@@ -162,7 +162,7 @@ fn fill(
 {
     let start = Cursor::new();
     let c = start.chunk_head(head, *b"FRM8", size);
-    layout::sides::front(
+    file_layout::sides::front(
         c,
         head,
         base,
@@ -179,7 +179,7 @@ fn fill(
         comments,
         lengths,
     );
-    layout::sides::back(
+    file_layout::sides::back(
         start,
         tail,
         base,
@@ -236,7 +236,7 @@ fn lay_out(
         callers,
         lengths,
     );
-    let sound = layout::sound::sound_size(area, options.dst_crc, lengths);
+    let sound = file_layout::sound::sound_size(area, options.dst_crc, lengths);
     let before = m.front as u64;
     let behind = m.back as u64;
     let base = 12 + before;

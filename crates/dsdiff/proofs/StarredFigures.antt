@@ -49,11 +49,11 @@ use Rattle.rules.specs.Property.{numbersFault, startFault, propertyFaults}
 use Rattle.rules.specs.Info.{infoFaults}
 use Rattle.rules.specs.Local.{lacksAny, localFaults}
 use Rattle.checks.specs.Inputs.{Inputs, givenFaults, chunkFaults, verdict}
-use Rattle.layout.specs.Parts.{parts, properties, indexOf}
-use Rattle.layout.specs.Sound.{soundSize, soundHead}
-use Rattle.layout.specs.Caller.{callerChunks}
-use Rattle.layout.specs.Sides.{before, behind, localBytes, front, back}
-use Rattle.layout.specs.File.{place, soundLength, formSize, headerOf, trailerOf}
+use Rattle.file_layout.specs.Parts.{parts, properties, indexOf}
+use Rattle.file_layout.specs.Sound.{soundSize, soundHead}
+use Rattle.file_layout.specs.Caller.{callerChunks}
+use Rattle.file_layout.specs.Sides.{before, behind, localBytes, front, back}
+use Rattle.file_layout.specs.File.{place, soundLength, formSize, headerOf, trailerOf}
 
 -- a stereo build of so many positions, with these lengths and options; nothing else is given
 abbrev build : Sound → ℕ → List ℕ → Options → Inputs

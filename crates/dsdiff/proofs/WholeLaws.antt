@@ -17,13 +17,13 @@ use Rattle.refusal.specs.declared.verdict.Verdict.{Verdict}
 use Rattle.refusal.specs.declared.verdict.Verdict.the-variants.{Accepted, Refused}
 use Rattle.refusal.proofs.VerdictLaws.{or-accepted}
 use Rattle.checks.specs.Inputs.{Inputs, verdict}
-use Rattle.layout.specs.Parts.{parts, indexOf}
-use Rattle.layout.specs.Sound.{Fits, soundBytes}
-use Rattle.layout.specs.File.{headerOf, trailerOf, fileOf}
-use Rattle.layout.proofs.FileLaws.{file-bytes, length-header}
-use Rattle.layout.proofs.SoundLaws.{length-soundBytes}
-use Rattle.layout.proofs.SizeLaws.{lengths-few, sound-once, sound-low}
-use Rattle.layout.proofs.IndexLaws.{index-leads}
+use Rattle.file_layout.specs.Parts.{parts, indexOf}
+use Rattle.file_layout.specs.Sound.{Fits, soundBytes}
+use Rattle.file_layout.specs.File.{headerOf, trailerOf, fileOf}
+use Rattle.file_layout.proofs.FileLaws.{file-bytes, length-header}
+use Rattle.file_layout.proofs.SoundLaws.{length-soundBytes}
+use Rattle.file_layout.proofs.SizeLaws.{lengths-few, sound-once, sound-low}
+use Rattle.file_layout.proofs.IndexLaws.{index-leads}
 use Rattle.assemble.specs.declared.build.Answer.{Answer}
 use Rattle.assemble.specs.declared.build.Answer.the-variants.{Built}
 use Rattle.assemble.specs.Build.{buildVerdict, Outcome, Builds}
