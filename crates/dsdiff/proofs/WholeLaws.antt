@@ -20,9 +20,8 @@ use Rattle.checks.specs.Inputs.{Inputs, verdict}
 use Rattle.file_layout.specs.Parts.{parts, indexOf}
 use Rattle.file_layout.specs.Sound.{Fits, soundBytes}
 use Rattle.file_layout.specs.File.{headerOf, trailerOf, fileOf}
-use Rattle.file_layout.proofs.FileLaws.{file-bytes, length-header}
-use Rattle.file_layout.proofs.SoundLaws.{length-soundBytes}
-use Rattle.file_layout.proofs.SizeLaws.{lengths-few, sound-once, sound-low}
+use Rattle.file_layout.proofs.FileLaws.{length-header}
+use Rattle.file_layout.proofs.AcceptedLaws.{accepted-file}
 use Rattle.file_layout.proofs.IndexLaws.{index-leads}
 use Rattle.assemble.specs.declared.build.Answer.{Answer}
 use Rattle.assemble.specs.declared.build.Answer.the-variants.{Built}
@@ -52,11 +51,7 @@ module _ (x : Inputs) (h t : List ℕ) {h′ t′ : List ℕ} {r : Answer} {a b 
   -- THE BUFFERS of an accepted build are the two sides of the sound in the bytes of the file, for any frames of the given lengths
   pub whole : (fs : List Frame) → Fits (x .area .sound) (x .area) (x .lengths) fs
       → take a h′ ++ soundBytes (x .area .sound) (x .options .«dst_crc») fs ++ take c t′ ≡ bytes (fileOf x fs)
-  whole fs fits =
-      let m = made x h t promise e in
-      let orders = promise .orders in
-      rw (m .header, m .trailer)
-      (file-bytes x fs fits (sound-once x (m .ok) orders) (omega (arith, lengths-few x (m .ok) orders)) (omega (arith, sound-low x (m .ok) orders)))
+  whole fs fits = let m = made x h t promise e in rw (m .header, m .trailer) (accepted-file x (m .ok) (promise .orders) fs fits)
 
   -- EACH ENTRY of a DST build's index, less 12 under `FrameData`, is the place of its own frame's DSTF; the header's length is the place from which the offsets count
   pub leads : x .area .sound ≡ Dst → (fs : List Frame) → lengths fs ≡ x .lengths → (i : ℕ) (d : Frame) → i < length fs

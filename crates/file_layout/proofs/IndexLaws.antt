@@ -23,8 +23,9 @@ use Rattle.checks.specs.Inputs.{Inputs, verdict}
 use Rattle.file_layout.specs.Parts.{parts, indexOf}
 use Rattle.file_layout.specs.Sound.{Fits, soundBytes, soundSize}
 use Rattle.file_layout.specs.File.{place, headerOf, trailerOf, fileOf, Ordered}
-use Rattle.file_layout.proofs.FileLaws.{file-bytes, length-header}
-use Rattle.file_layout.proofs.SizeLaws.{lengths-few, sound-once, sound-low, front-low}
+use Rattle.file_layout.proofs.FileLaws.{length-header}
+use Rattle.file_layout.proofs.SizeLaws.{sound-low, front-low}
+use Rattle.file_layout.proofs.AcceptedLaws.{accepted-file}
 
 -- a unit starts no later than the sound ends
 start-low : (ss : List ℕ) (i : ℕ) → start ss i ≤ sum ss
@@ -43,7 +44,7 @@ module _ (x : Inputs) (ok : verdict x ≡ Accepted) (sized : Ordered x) (dst : x
   unfolding soundBytes
   whole =
       ap (λ (s : Sound). headerOf x ++ soundBytes s (x .options .«dst_crc») fs ++ trailerOf x) (sym dst)
-      ∙ file-bytes x fs fits (sound-once x ok sized) (omega (arith, lengths-few x ok sized)) (omega (arith, sound-low x ok sized))
+      ∙ accepted-file x ok sized fs fits
 
   pub index-leads : (i : ℕ) (d : Frame) → i < length fs
       → Stands (bytes (fileOf x fs)) (num (take 8 (drop (12 * i) (indexOf (parts x) (place x)))) - shiftOf (x .options .«dst_index_offset»))

@@ -4,4 +4,5 @@ pub mod SoundLaws
 pub mod CallerLaws
 pub mod FileLaws
 pub mod SizeLaws
+pub mod AcceptedLaws
 pub mod IndexLaws
