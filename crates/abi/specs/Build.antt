@@ -4,7 +4,7 @@ use mathlib.Core.List.{List}
 use Prim.Native.Nat.{ℕ}
 use Rattle.chunk.specs.Append.{overlay}
 use Rattle.checks.specs.Inputs.{Inputs}
-use Rattle.file_layout.specs.File.{headerOf, trailerOf}
+use Rattle.file_tree.specs.File.{headerOf, trailerOf}
 use Rattle.assemble.specs.Answer.{numberOf, valuesOf}
 use Rattle.assemble.specs.Build.{buildVerdict, answerOf, bufferOf}
 

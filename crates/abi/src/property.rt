@@ -5,8 +5,8 @@ ghost use Rattle.tree.specs.Tree.{bytes};
 ghost use Rattle.prop.specs.Property.{property};
 ghost use Rattle.meanings.specs.Property.{soundOf, layoutOf, startOf, propertyOrderOf};
 use chunk::Cursor;
-use prop::layout::ChannelNumbers;
 use prop::property::Properties;
+use prop_fields::layout::ChannelNumbers;
 
 // PROP, its chunks in the order of these numbers. The channel numbers are used if they are given.
 #[no_mangle]

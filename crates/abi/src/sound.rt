@@ -11,7 +11,7 @@ ghost use Rattle.dst.specs.Frame.{frameBytes, plainBytes, dsdSound};
 ghost use Rattle.dst.specs.Unit.{sound, sizes};
 ghost use Rattle.sound_reads.specs.Positions.{positions, number, between};
 ghost use Rattle.dst.specs.Head.{head};
-ghost use Rattle.dst.specs.Index.{shiftOf, index};
+ghost use Rattle.dst_index.specs.Index.{shiftOf, index};
 ghost use Rattle.sound_reads.specs.Lent.{isLent, framesWith, contentsWith};
 ghost use Rattle.meanings.specs.Sound.{offsetOf};
 ghost use Rattle.abi.specs.Sound.{countOf, Count};
@@ -58,7 +58,7 @@ pub extern "C" fn jangqeruz_dst_index(
     ensures { λ r. ⌜ Appended (now (out .entry)) 0 (index crc (moved base (shiftOf (offsetOf «frame_data»))) (now (lengths .entry))) (now (out .exit)) r ⌝ }
 {
     let c = Cursor::new();
-    let end = dst::index::index(
+    let end = dst_index::index::index(
         c,
         out,
         crc,
@@ -80,7 +80,7 @@ pub extern "C" fn jangqeruz_dst_positions(
 )
     ensures { λ r. ⌜ now (range .exit) ≡ positions (sizes crc (now (lengths .entry))) from count .first ∷ positions (sizes crc (now (lengths .entry))) from count .end ∷ [] ⌝ }
 {
-    let p = sound_reads::dst_data::positions(crc, lengths, from, count);
+    let p = dst_reads::dst_data::positions(crc, lengths, from, count);
     *range = [p.first, p.end];
 }
 
@@ -94,7 +94,7 @@ pub extern "C" fn jangqeruz_dsd_positions(
 )
     ensures { λ r. ⌜ now (range .exit) ≡ positions (replicate n (frameBytes channels)) from count .first ∷ positions (replicate n (frameBytes channels)) from count .end ∷ [] ⌝ }
 {
-    let p = sound_reads::dsd_data::positions(channels, n, from, count);
+    let p = dsd_reads::dsd_data::positions(channels, n, from, count);
     *range = [p.first, p.end];
 }
 
@@ -117,7 +117,7 @@ pub extern "C" fn jangqeruz_dst_fill(
         skip (now (out .entry)) (now (out .exit)) r ⌝ }
 {
     let start = Window { at: 0, skip };
-    count(sound_reads::dst_data::fill(out, start, crc, channels, lengths, lent, frames, contents))
+    count(dst_reads::dst_data::fill(out, start, crc, channels, lengths, lent, frames, contents))
 }
 
 #[no_mangle]
@@ -134,5 +134,5 @@ pub extern "C" fn jangqeruz_dsd_fill(
         skip (now (out .entry)) (now (out .exit)) r ⌝ }
 {
     let start = Window { at: 0, skip };
-    count(sound_reads::dsd_data::fill(out, start, channels, n, contents))
+    count(dsd_reads::dsd_data::fill(out, start, channels, n, contents))
 }

@@ -3,7 +3,7 @@ ghost use mathlib.Core.Path.{_≡_};
 ghost use Rattle.chunk.specs.Append.{Appended};
 ghost use Rattle.texts.specs.Extent.{part};
 ghost use Rattle.texts.specs.Text.{textBytes};
-ghost use Rattle.texts.specs.DiinText.{diinText};
+ghost use Rattle.diin_texts.specs.DiinText.{diinText};
 ghost use Rattle.comt.specs.Comment.{comt};
 ghost use Rattle.meanings.specs.Text.{ruleOf, optionsOf, textOf};
 use chunk::Cursor;
@@ -56,7 +56,7 @@ pub extern "C" fn jangqeruz_diin_text(
 {
     let options = meanings::text::options(rule_number, replacement, empty_text, text_pad_counted);
     let c = Cursor::new();
-    let end = texts::diin_text::diin_text(
+    let end = diin_texts::diin_text::diin_text(
         c,
         out,
         *id,

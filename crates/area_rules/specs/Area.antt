@@ -4,7 +4,7 @@ use mathlib.Core.Bool.{cond, not, _&&_, _||_}
 use mathlib.Core.List.{List, [], _∷_}
 use lib.Dec.{eqb, ltb}
 use lib.ListN.{length}
-use Rattle.prop.specs.Layout.{channelCount}
+use Rattle.prop_fields.specs.Layout.{channelCount}
 use Rattle.refusal.specs.Verdict.{refuseIf, firstOf}
 use Rattle.rows.specs.Lengths.{lengthsWrong}
 use Rattle.refusal.specs.declared.verdict.Verdict.{Verdict}

@@ -26,7 +26,7 @@ fn area_fault(area: Area) -> Verdict
 {
     let layout = area.layout;
     let channels = area.channels;
-    let named = prop::layout::channel_count(layout, channels);
+    let named = prop_fields::layout::channel_count(layout, channels);
     let v6 = refuse_if(LONGEST_PLAYTIME < area.playtime, 6, 0);
     let v7 = refuse_if((channels < 1) | (6 < channels), 7, 0);
     let v8 = refuse_if(named != channels as u16, 8, 0);

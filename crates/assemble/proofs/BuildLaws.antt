@@ -13,14 +13,15 @@ use Rattle.chunk.proofs.AppendLaws.{overlay-room}
 use Rattle.refusal.specs.declared.verdict.Verdict.{Verdict}
 use Rattle.refusal.specs.declared.verdict.Verdict.the-variants.{Accepted, Refused}
 use Rattle.checks.specs.Inputs.{Inputs, verdict}
-use Rattle.file_layout.specs.File.{frontOf, backOf, place, soundLength, formSize, headerOf, trailerOf, Ordered}
-use Rattle.file_layout.proofs.FileLaws.{length-front, length-back, length-header}
-use Rattle.file_layout.proofs.SizeLaws.{front-low, back-low, sound-low}
+use Rattle.file_tree.specs.File.{frontOf, backOf, place, soundLength, formSize, headerOf, trailerOf, Ordered}
+use Rattle.file_tree.proofs.FileLaws.{length-front, length-back, length-header}
+use Rattle.file_tree.proofs.SizeLaws.{front-low, back-low, sound-low}
 use Rattle.assemble.specs.declared.build.Answer.{Answer}
 use Rattle.assemble.specs.declared.build.Answer.the-variants as answer
-use Rattle.assemble.specs.declared.build.Lengths.{Lengths}
+use Rattle.header_trailer.specs.declared.measure.Lengths.{Lengths}
 use Rattle.assemble.specs.Build.{roomFault, buildVerdict, Outcome}
-use Rattle.assemble.specs.Within.{Measured, Filled}
+use Rattle.header_trailer.specs.Measure.{Measured}
+use Rattle.header_trailer.specs.Fill.{Filled}
 
 -- where there is room, what is laid over the front stands before the rest
 laid : (xs bs : List ℕ) → length bs ≤ length xs → overlay xs 0 bs ≡ bs ++ drop (length bs) xs

@@ -5,36 +5,13 @@ use mathlib.Core.List.{List, [], _∷_, _++_}
 use Prim.Native.Nat.{ℕ}
 use lib.Dec.{ltb}
 use lib.ListN.{length, drop}
-use Rattle.chunk_names.specs.declared.PropertyChunk.{PropertyChunk}
-use Rattle.chunk_names.specs.declared.InfoChunk.{InfoChunk}
-use Rattle.chunk_names.specs.declared.LocalChunk.{LocalChunk}
 use Rattle.refusal.specs.Verdict.{refuseIf, orElse, firstOf}
 use Rattle.refusal.specs.declared.verdict.Verdict.{Verdict}
 use Rattle.refusal.specs.declared.verdict.Verdict.the-variants.{Accepted, Refused}
-use Rattle.build_options.specs.declared.area.Area.{Area}
-use Rattle.build_options.specs.declared.options.Options.{Options}
 use Rattle.checks.specs.Inputs.{Inputs, verdict}
-use Rattle.file_layout.specs.File.{soundLength, headerOf, trailerOf, Ordered}
+use Rattle.file_tree.specs.File.{soundLength, headerOf, trailerOf, Ordered}
 use Rattle.assemble.specs.declared.build.Answer.{Answer}
 use Rattle.assemble.specs.declared.build.Answer.the-variants as answer
-
--- all that a build is given but its buffers
-abbrev pub inputsOf : Area → Options → List PropertyChunk → List InfoChunk → List LocalChunk → ℕ → List ℕ → List ℕ → List ℕ → List ℕ → List ℕ → List ℕ → List ℕ → Inputs
-inputsOf area options propertyOrder infoOrder localOrder localCount pool raw tracks markers comments callers lengths = record {
-  area = area;
-  options = options;
-  propertyOrder = propertyOrder;
-  infoOrder = infoOrder;
-  localOrder = localOrder;
-  localCount = localCount;
-  pool = pool;
-  raw = raw;
-  tracks = tracks;
-  markers = markers;
-  comments = comments;
-  callers = callers;
-  lengths = lengths;
-}
 
 -- a buffer is short of what it is to hold; the detail is the length needed
 abbrev pub short : ℕ → List ℕ → List ℕ → Verdict

@@ -1,19 +1,11 @@
 // A build: the verdict on its inputs, the lengths of what is to be written, and then the writing.
 ghost use mathlib.Core.Path.{_≡_};
-ghost use mathlib.Core.List.{_++_};
-ghost use lib.ListN.{length};
-ghost use Rattle.chunk.specs.Append.{overlay, moved};
-ghost use Rattle.chunk.specs.Number.{be};
-ghost use Rattle.chunk_names.specs.Name.{ascii};
 ghost use Rattle.refusal.specs.declared.verdict.Verdict.the-variants.{Accepted};
-ghost use Rattle.checks.specs.Inputs.{verdict};
-ghost use Rattle.file_layout.specs.File.{frontOf, backOf};
+ghost use Rattle.checks.specs.Inputs.{inputsOf, verdict};
 ghost use Rattle.assemble.specs.Answer.{numberOf, valuesOf};
-ghost use Rattle.assemble.specs.Build.{inputsOf, Builds, LaysOut};
-ghost use Rattle.assemble.specs.Within.{Measured, Filled};
+ghost use Rattle.assemble.specs.Build.{Builds, LaysOut};
 use build_options::area::Area;
 use build_options::options::Options;
-use chunk::Cursor;
 use chunk_names::InfoChunk;
 use chunk_names::LocalChunk;
 use chunk_names::PropertyChunk;
@@ -70,135 +62,6 @@ impl Answer {
     }
 }
 
-// The lengths of FRM8's data before the sound, and of the trailer.
-struct Lengths {
-    front: usize,
-    back: usize,
-}
-
-// What is to be written is written to an empty buffer.
-fn measure(
-    area: Area,
-    options: Options,
-    property_order: [PropertyChunk; 5],
-    info_order: [InfoChunk; 4],
-    local_order: [LocalChunk; 5],
-    local_count: u32,
-    pool: &[u32],
-    raw: &[u8],
-    tracks: &[u32],
-    markers: &[u32],
-    comments: &[u32],
-    callers: &[u32],
-    lengths: &[u32],
-) -> Lengths
-    ensures { λ r. ⌜ Measured (inputsOf area options «property_order» «info_order» «local_order» «local_count» (now (pool .entry)) (now (raw .entry)) (now (tracks .entry)) (now (markers .entry)) (now (comments .entry)) (now (callers .entry)) (now (lengths .entry))) r ⌝ }
-{
-    let mut empty = [0u8; 0];
-    let start = Cursor::new();
-    let front = file_layout::sides::front(
-        start,
-        &mut empty,
-        0,
-        area,
-        options,
-        property_order,
-        info_order,
-        local_order,
-        local_count,
-        pool,
-        raw,
-        tracks,
-        markers,
-        comments,
-        lengths,
-    );
-    let back = file_layout::sides::back(
-        start,
-        &mut empty,
-        0,
-        area,
-        options,
-        property_order,
-        info_order,
-        local_order,
-        local_count,
-        pool,
-        raw,
-        tracks,
-        markers,
-        comments,
-        callers,
-        lengths,
-    );
-    Lengths {
-        front: front.at,
-        back: back.at,
-    }
-}
-
-// Header and trailer, where FRM8's data has so many bytes and the sound begins at `base`.
-fn fill(
-    size: u64,
-    base: u64,
-    area: Area,
-    options: Options,
-    property_order: [PropertyChunk; 5],
-    info_order: [InfoChunk; 4],
-    local_order: [LocalChunk; 5],
-    local_count: u32,
-    pool: &[u32],
-    raw: &[u8],
-    tracks: &[u32],
-    markers: &[u32],
-    comments: &[u32],
-    callers: &[u32],
-    lengths: &[u32],
-    head: &mut [u8],
-    tail: &mut [u8],
-)
-    ensures { λ _. ⌜ Filled (inputsOf area options «property_order» «info_order» «local_order» «local_count» (now (pool .entry)) (now (raw .entry)) (now (tracks .entry)) (now (markers .entry)) (now (comments .entry)) (now (callers .entry)) (now (lengths .entry))) size base
-        (now (head .entry)) (now (head .exit)) (now (tail .entry)) (now (tail .exit)) ⌝ }
-{
-    let start = Cursor::new();
-    let c = start.chunk_head(head, *b"FRM8", size);
-    file_layout::sides::front(
-        c,
-        head,
-        base,
-        area,
-        options,
-        property_order,
-        info_order,
-        local_order,
-        local_count,
-        pool,
-        raw,
-        tracks,
-        markers,
-        comments,
-        lengths,
-    );
-    file_layout::sides::back(
-        start,
-        tail,
-        base,
-        area,
-        options,
-        property_order,
-        info_order,
-        local_order,
-        local_count,
-        pool,
-        raw,
-        tracks,
-        markers,
-        comments,
-        callers,
-        lengths,
-    );
-}
-
 // What an accepted build does: measure, see that the buffers have room, write.
 fn lay_out(
     area: Area,
@@ -221,7 +84,7 @@ fn lay_out(
     ensures { λ r. ⌜ LaysOut (inputsOf area options «property_order» «info_order» «local_order» «local_count» (now (pool .entry)) (now (raw .entry)) (now (tracks .entry)) (now (markers .entry)) (now (comments .entry)) (now (callers .entry)) (now (lengths .entry)))
         (now (header .entry)) (now (header .exit)) (now (trailer .entry)) (now (trailer .exit)) r ⌝ }
 {
-    let m = measure(
+    let m = header_trailer::measure::measure(
         area,
         options,
         property_order,
@@ -252,7 +115,7 @@ fn lay_out(
             detail: behind,
         };
     }
-    fill(
+    header_trailer::fill::fill(
         before + sound + behind,
         base,
         area,

@@ -1,11 +1,11 @@
 -- The area that is written, and its range. Assumes nothing.
 use Prim.Native.Nat.{ℕ, _-_}
 use mathlib.Core.Bool.{Bool, true, false}
-use Rattle.prop.specs.declared.compression.Sound.{Sound}
-use Rattle.prop.specs.declared.compression.Sound.the-variants.{Dsd, Dst}
+use Rattle.prop_fields.specs.declared.compression.Sound.{Sound}
+use Rattle.prop_fields.specs.declared.compression.Sound.the-variants.{Dsd, Dst}
 use Rattle.build_options.specs.declared.area.Area.{Area}
-use Rattle.prop.specs.declared.layout.Layout.{Layout}
-use Rattle.prop.specs.declared.layout.Layout.the-variants.{Stereo, ThreeTwo, FivePointOne, Unspecified}
+use Rattle.prop_fields.specs.declared.layout.Layout.{Layout}
+use Rattle.prop_fields.specs.declared.layout.Layout.the-variants.{Stereo, ThreeTwo, FivePointOne, Unspecified}
 
 -- the positions of the range, none if it is turned round
 abbrev pub positions : Area → ℕ

@@ -7,12 +7,12 @@ use Rattle.texts.specs.declared.extent.Extent.{Extent}
 use Rattle.texts.specs.declared.text.TextRule.{TextRule}
 use Rattle.texts.specs.declared.text.TextRule.the-variants.{Replace, Remove, D2}
 use Rattle.texts.specs.declared.text.TextOptions.{TextOptions}
-use Rattle.texts.specs.declared.diin_text.Text.{Text}
-use Rattle.texts.specs.declared.diin_text.Text.the-variants as text
-use Rattle.dst.specs.declared.index.DstIndexOffset.the-variants.{ChunkHeader}
-use Rattle.prop.specs.Start.{startFrame}
-use Rattle.prop.specs.declared.start.Start.{Start}
-use Rattle.prop.specs.declared.start.Start.the-variants.{Absent, Given}
+use Rattle.diin_texts.specs.declared.diin_text.Text.{Text}
+use Rattle.diin_texts.specs.declared.diin_text.Text.the-variants as text
+use Rattle.dst_index.specs.declared.index.DstIndexOffset.the-variants.{ChunkHeader}
+use Rattle.prop_fields.specs.Start.{startFrame}
+use Rattle.prop_fields.specs.declared.start.Start.{Start}
+use Rattle.prop_fields.specs.declared.start.Start.the-variants.{Absent, Given}
 use Rattle.tracks.specs.declared.order.ProgramOptions.{ProgramOptions}
 use Rattle.master_info.specs.declared.pick.ArtistTitle.{ArtistTitle}
 use Rattle.master_info.specs.declared.pick.ArtistTitleSource.the-variants.{Album}

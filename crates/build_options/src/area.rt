@@ -1,8 +1,8 @@
 // The area that is written, and its range.
 ghost use mathlib.Core.Path.{_≡_};
 ghost use Rattle.build_options.specs.Area.{positions, isDst, unspecified};
-use prop::compression::Sound;
-use prop::layout::Layout;
+use prop_fields::compression::Sound;
+use prop_fields::layout::Layout;
 
 pub struct Area {
     pub sound: Sound,

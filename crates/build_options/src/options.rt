@@ -2,13 +2,13 @@
 ghost use mathlib.Core.Path.{_≡_};
 ghost use Rattle.build_options.specs.Options.{isPresent, extentOf, defaults, effective, startOf, isOn, ruleOf, textOptions, infoOf, programOptions, tagRows, idRow};
 use crate::area::Area;
-use dst::index::DstIndexOffset;
+use diin_texts::diin_text::Text;
+use dst_index::index::DstIndexOffset;
 use master_info::diin::Info;
 use master_info::pick::ArtistTitle;
 use master_info::pick::ArtistTitleSource;
-use prop::layout::ChannelNumbers;
-use prop::start::Start;
-use texts::diin_text::Text;
+use prop_fields::layout::ChannelNumbers;
+use prop_fields::start::Start;
 use texts::extent::Extent;
 use texts::text::TextOptions;
 use texts::text::TextRule;

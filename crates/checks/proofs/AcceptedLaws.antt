@@ -11,8 +11,8 @@ use Rattle.chunk_names.specs.declared.LocalChunk.the-variants.{Property, SoundD
 use Rattle.comt.specs.Comment.{writtenComments, hasComt}
 use Rattle.master_info.specs.Diin.{hasDiin}
 use Rattle.master_info.specs.declared.diin.Info.{Info}
-use Rattle.prop.specs.Layout.{channelCount}
-use Rattle.prop.specs.Start.{isGiven, startFrame}
+use Rattle.prop_fields.specs.Layout.{channelCount}
+use Rattle.prop_fields.specs.Start.{isGiven, startFrame}
 use Rattle.refusal.specs.Verdict.{orElse}
 use Rattle.refusal.specs.Below.{any}
 use Rattle.rows.specs.Extents.{tooLarge, outsidePool}
@@ -32,7 +32,7 @@ use Rattle.rules.specs.Limits.{longestText, longestCallerChunk, mostTracks, mos
 use Rattle.area_rules.specs.Master.{trackFaults}
 use Rattle.rules.specs.Property.{replacementWrong, numbersFault, lastFrameOfDay, startFault, propertyFaults}
 use Rattle.rules.specs.Info.{infoFaults}
-use Rattle.rules.specs.Local.{repeats, lacks, soundBeforeProp, lacksAny, localFaults}
+use Rattle.local_rules.specs.Local.{repeats, lacks, soundBeforeProp, lacksAny, localFaults}
 use Rattle.checks.specs.Inputs.{Inputs, givenFaults, chunkFaults, verdict}
 
 -- a condition that is met, and a fault that is not

@@ -9,8 +9,8 @@ use lib.ListN.{length, length-map}
 use borrow.Author.Tests.{lt-ltb}
 use Rattle.tree.specs.Tree.{bytes}
 use Rattle.chunk.specs.Rows.{rows}
-use Rattle.texts.specs.declared.diin_text.Text.{Text}
-use Rattle.texts.specs.declared.diin_text.Text.the-variants.{Absent, Given}
+use Rattle.diin_texts.specs.declared.diin_text.Text.{Text}
+use Rattle.diin_texts.specs.declared.diin_text.Text.the-variants.{Absent, Given}
 use Rattle.chunk.proofs.RowsLaws.{length-rows, length-mapped}
 use Rattle.tracks.specs.Track.{spanOf, spans}
 use Rattle.track_markers.specs.Program.{fromToc}

@@ -3,16 +3,16 @@ use mathlib.Core.Path.{_≡_, refl}
 use mathlib.Core.Bool.{true}
 use mathlib.Core.List.{[], _∷_}
 use Rattle.chunk_names.specs.Name.{propertyOrder, infoOrder, localOrder}
-use Rattle.prop.specs.declared.compression.Sound.{Sound}
-use Rattle.prop.specs.declared.compression.Sound.the-variants.{Dsd, Dst}
-use Rattle.prop.specs.declared.layout.Layout.the-variants.{Stereo, Unspecified}
-use Rattle.prop.specs.declared.start.Start.{Start}
-use Rattle.prop.specs.declared.start.Start.the-variants.{Given}
-use Rattle.prop.specs.Layout.{channelCount}
-use Rattle.prop.specs.Start.{isGiven, startFrame}
+use Rattle.prop_fields.specs.declared.compression.Sound.{Sound}
+use Rattle.prop_fields.specs.declared.compression.Sound.the-variants.{Dsd, Dst}
+use Rattle.prop_fields.specs.declared.layout.Layout.the-variants.{Stereo, Unspecified}
+use Rattle.prop_fields.specs.declared.start.Start.{Start}
+use Rattle.prop_fields.specs.declared.start.Start.the-variants.{Given}
+use Rattle.prop_fields.specs.Layout.{channelCount}
+use Rattle.prop_fields.specs.Start.{isGiven, startFrame}
 use Rattle.refusal.specs.Below.{below}
 use Rattle.refusal.specs.Orders.{times, eachOnce}
-use Rattle.refusal.specs.ChannelNumbers.{numberFaults}
+use Rattle.channel_rules.specs.ChannelNumbers.{numberFaults}
 use Rattle.refusal.specs.declared.verdict.Verdict.the-variants.{Accepted, Refused}
 use Rattle.rows.specs.Lengths.{lengthsWrong}
 use Rattle.build_options.specs.declared.area.Area.{Area}
@@ -26,7 +26,7 @@ use Rattle.build_options.specs.Options.{defaults, effective}
 use Rattle.rules.specs.Limits.{anyTooLarge, anyOutside, anyNoScalar, limitFaults}
 use Rattle.area_rules.specs.Master.{sourceFault, editedMasterFault, trackFaults}
 use Rattle.rules.specs.Info.{infoFaults}
-use Rattle.rules.specs.Local.{lacksAny, localFaults}
+use Rattle.local_rules.specs.Local.{lacksAny, localFaults}
 use Rattle.checks.specs.Inputs.{Inputs, givenFaults, chunkFaults, verdict}
 use Rattle.area_rules.specs.Area.{areaFault, lengthsFault, rangeFault, areaFaults}
 use Rattle.rules.specs.Property.{numbersFault, startFault, propertyFaults}

@@ -19,7 +19,7 @@ use Rattle.area_rules.specs.Area.{areaFaults}
 use Rattle.area_rules.specs.Master.{trackFaults}
 use Rattle.rules.specs.Property.{propertyFaults}
 use Rattle.rules.specs.Info.{infoFaults}
-use Rattle.rules.specs.Local.{localFaults}
+use Rattle.local_rules.specs.Local.{localFaults}
 
 pub record Inputs : Type 0 where
   pub area : Area
@@ -38,6 +38,24 @@ pub record Inputs : Type 0 where
   pub callers : List ℕ
   -- of the DST frames
   pub lengths : List ℕ
+
+-- all of it, one by one
+abbrev pub inputsOf : Area → Options → List PropertyChunk → List InfoChunk → List LocalChunk → ℕ → List ℕ → List ℕ → List ℕ → List ℕ → List ℕ → List ℕ → List ℕ → Inputs
+inputsOf area options propertyOrder infoOrder localOrder localCount pool raw tracks markers comments callers lengths = record {
+  area = area;
+  options = options;
+  propertyOrder = propertyOrder;
+  infoOrder = infoOrder;
+  localOrder = localOrder;
+  localCount = localCount;
+  pool = pool;
+  raw = raw;
+  tracks = tracks;
+  markers = markers;
+  comments = comments;
+  callers = callers;
+  lengths = lengths;
+}
 
 -- 1 to 3, then 4 and 5
 unfoldable pub givenFaults : Options → List ℕ → List ℕ → List ℕ → List ℕ → List ℕ → List ℕ → Verdict

@@ -48,7 +48,7 @@ fn chunk_faults(
     let text = info.text;
     let a = rules::info::info_faults(area, info, info_order, raw, markers);
     let b = comment_faults::comments::comment_faults(comments, pool, text, area.channels);
-    let c = rules::local::local_faults(
+    let c = local_rules::local::local_faults(
         local_order,
         local_count,
         dst_index,

@@ -2,4 +2,3 @@ pub mod MarkerLaws
 pub mod TableLaws
 pub mod Zeros
 pub mod WholeLaws
-pub mod StarredFigures

@@ -11,18 +11,18 @@ use Rattle.chunk.specs.Chunk.{chunk}
 use Rattle.tree.specs.Tree.{bytes}
 use Rattle.dst.specs.Frame.{Frame}
 use Rattle.dst.specs.Unit.{lengths}
-use Rattle.dst.specs.Index.{shiftOf, Stands}
-use Rattle.prop.specs.declared.compression.Sound.the-variants.{Dst}
+use Rattle.dst_index.specs.Index.{shiftOf, Stands}
+use Rattle.prop_fields.specs.declared.compression.Sound.the-variants.{Dst}
 use Rattle.refusal.specs.declared.verdict.Verdict.{Verdict}
 use Rattle.refusal.specs.declared.verdict.Verdict.the-variants.{Accepted, Refused}
 use Rattle.refusal.proofs.VerdictLaws.{or-accepted}
 use Rattle.checks.specs.Inputs.{Inputs, verdict}
-use Rattle.file_layout.specs.Parts.{parts, indexOf}
-use Rattle.file_layout.specs.Sound.{Fits, soundBytes}
-use Rattle.file_layout.specs.File.{headerOf, trailerOf, fileOf}
-use Rattle.file_layout.proofs.FileLaws.{length-header}
-use Rattle.file_layout.proofs.AcceptedLaws.{accepted-file}
-use Rattle.file_layout.proofs.IndexLaws.{index-leads}
+use Rattle.file_tree.specs.Parts.{parts, indexOf}
+use Rattle.file_tree.specs.Sound.{Fits, soundBytes}
+use Rattle.file_tree.specs.File.{headerOf, trailerOf, fileOf}
+use Rattle.file_tree.proofs.FileLaws.{length-header}
+use Rattle.file_tree.proofs.AcceptedLaws.{accepted-file}
+use Rattle.file_tree.proofs.IndexLaws.{index-leads}
 use Rattle.assemble.specs.declared.build.Answer.{Answer}
 use Rattle.assemble.specs.declared.build.Answer.the-variants.{Built}
 use Rattle.assemble.specs.Build.{buildVerdict, Outcome, Builds}

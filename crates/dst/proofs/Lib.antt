@@ -3,5 +3,3 @@ pub mod StartLaws
 pub mod SaturateLaws
 pub mod LowLaws
 pub mod UnitLaws
-pub mod IndexLaws
-pub mod DstExamples

@@ -1,5 +1,4 @@
 pub mod Frame
 pub mod Unit
 pub mod Head
-pub mod Index
 pub mod Start

@@ -2,7 +2,7 @@ use crate::print;
 use chunk::Cursor;
 
 fn time(g: u64) {
-    let t = chunk::time::time(g);
+    let t = frame_time::time::time(g);
     print::text(b"time of frame ");
     print::number(g);
     print::text(b": hours ");
@@ -16,7 +16,7 @@ fn time(g: u64) {
     print::text(b", bytes");
     let mut out = [0u8; 8];
     let c = Cursor::new();
-    c.time(&mut out, t);
+    frame_time::time::time_bytes(c, &mut out, t);
     print::bytes(&out);
 }
 

@@ -2,11 +2,11 @@
 use crate::print;
 use chunk::Cursor;
 use chunk_names::InfoChunk;
+use diin_texts::diin_text::Text;
 use master_info::diin::Info;
 use master_info::pick::ArtistTitle;
 use master_info::pick::ArtistTitleSource;
-use prop::start::Start;
-use texts::diin_text::Text;
+use prop_fields::start::Start;
 use texts::extent::Extent;
 use texts::text::TextOptions;
 use texts::text::TextRule;

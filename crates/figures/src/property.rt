@@ -2,11 +2,11 @@
 use crate::print;
 use chunk::Cursor;
 use chunk_names::PropertyChunk;
-use prop::compression::Sound;
-use prop::layout::ChannelNumbers;
-use prop::layout::Layout;
 use prop::property::Properties;
-use prop::start::Start;
+use prop_fields::compression::Sound;
+use prop_fields::layout::ChannelNumbers;
+use prop_fields::layout::Layout;
+use prop_fields::start::Start;
 
 // The original's defaults: no channel numbers, no start, LSCO unless the layout is unspecified.
 fn defaults(sound: Sound, layout: Layout, channels: u8, d1: bool) -> Properties {

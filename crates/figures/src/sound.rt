@@ -1,10 +1,10 @@
 // The sound of a file of two DST frames, of 3 and of 4 bytes, and the positions of DSD sound.
 use crate::print;
 use chunk::Cursor;
-use dst::index::DstIndexOffset;
+use dsd_reads::dsd_data;
 use dst::unit;
-use sound_reads::dsd_data;
-use sound_reads::dst_data;
+use dst_index::index::DstIndexOffset;
+use dst_reads::dst_data;
 use sound_reads::lent::Fill;
 use sound_reads::place::Positions;
 use window::window::Window;
@@ -50,7 +50,7 @@ fn entries(title: &[u8], crc: bool, offset: DstIndexOffset) {
     let lengths = LENGTHS;
     let mut out = [0xEEu8; 24];
     let c = Cursor::new();
-    dst::index::index(c, &mut out, crc, offset, 158, &lengths);
+    dst_index::index::index(c, &mut out, crc, offset, 158, &lengths);
     print::text(b"index from 158, ");
     print::text(title);
     print::text(b":");

@@ -2,7 +2,7 @@
 use crate::print;
 use crate::text_cases;
 use chunk::Cursor;
-use texts::diin_text::Text;
+use diin_texts::diin_text::Text;
 use texts::extent::Extent;
 use texts::text::TextOptions;
 use texts::text::TextRule;
@@ -23,7 +23,7 @@ fn diin(id: [u8; 4], pool: &[u32], text: Text, options: TextOptions) {
     }
     let mut out = [0xEEu8; 32];
     let c = Cursor::new();
-    let end = texts::diin_text::diin_text(c, &mut out, id, pool, text, options);
+    let end = diin_texts::diin_text::diin_text(c, &mut out, id, pool, text, options);
     print::text(&id);
     print::length(end.at);
     print::front(&out, end.at);

@@ -7,8 +7,8 @@ use lib.ListN.{length, take, getD}
 use Rattle.chunk.specs.Append.{Appended}
 use Rattle.chunk_names.specs.declared.LocalChunk.{LocalChunk}
 use Rattle.chunk.proofs.AppendLaws.{_then_, kept}
-use Rattle.file_layout.specs.Sides.{isSound, onSide, hasSound, before, behind, side}
-use Rattle.file_layout.proofs.SideLaws.{side-next}
+use Rattle.file_tree.specs.Sides.{isSound, onSide, hasSound, before, behind, side}
+use Rattle.file_tree.proofs.SideLaws.{side-next}
 
 pub side-none : (b : Bool) → side b [] ≡ []
 unfolding before behind

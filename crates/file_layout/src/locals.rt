@@ -2,16 +2,15 @@
 ghost use mathlib.Core.Path.{_≡_};
 ghost use mathlib.Core.Bool.{cond, _&&_};
 ghost use mathlib.Core.List.{[]};
-ghost use Prim.Native.Nat.{min};
 ghost use Rattle.chunk.specs.Append.{Appended, moved};
 ghost use Rattle.tree.specs.Tree.{bytes};
-ghost use Rattle.dst.specs.Index.{shiftOf, dsti};
+ghost use Rattle.dst_index.specs.Index.{shiftOf, dsti};
 ghost use Rattle.prop.specs.Property.{property};
 ghost use Rattle.master_info.specs.Diin.{diin};
 ghost use Rattle.build_options.specs.Options.{effective, infoOf};
 ghost use Rattle.build_options.specs.Area.{isDst};
-ghost use Rattle.file_layout.specs.Parts.{partsOf, propertiesOf};
-ghost use Rattle.file_layout.specs.Sides.{isSound, onSide, named, side, localBytes, localsBytes};
+ghost use Rattle.file_tree.specs.Parts.{partsOf, propertiesOf};
+ghost use Rattle.file_tree.specs.Sides.{isSound, onSide, named, side, localBytes, localsBytes};
 use build_options::area::Area;
 use build_options::options::Options;
 use build_options::options::Settings;
@@ -19,8 +18,8 @@ use chunk::Cursor;
 use chunk_names::InfoChunk;
 use chunk_names::LocalChunk;
 use chunk_names::PropertyChunk;
-use prop::compression::Sound;
 use prop::property::Properties;
+use prop_fields::compression::Sound;
 
 // What PROP tells.
 fn properties_of(area: Area, o: Options, s: Settings) -> Properties
@@ -77,7 +76,7 @@ fn index_chunk(
         Sound::Dst => {
             if options.dst_index {
                 let offset = options.dst_index_offset;
-                return dst::index::dsti(c, out, options.dst_crc, offset, base, lengths);
+                return dst_index::index::dsti(c, out, options.dst_crc, offset, base, lengths);
             }
             return c;
         }
@@ -177,15 +176,6 @@ fn is_sound(name: LocalChunk) -> bool
     }
 }
 
-fn at_most_five(count: u32) -> usize
-    ensures { λ r. ⌜ r ≡ min count 5 ⌝ }
-{
-    if count <= 5 {
-        return count as usize;
-    }
-    5
-}
-
 // Whether a name is on the side of the sound that is asked for: the sound was passed before it, or comes after it.
 fn on_side(behind: bool, passed: bool, sound: bool) -> bool
     ensures { λ r. ⌜ r ≡ onSide behind passed sound ⌝ }
@@ -220,7 +210,7 @@ pub(crate) fn local_chunks(
         (now (out .exit)) (r .at) ⌝ }
 {
     let mut c = c;
-    let n = at_most_five(count);
+    let n = refusal::orders::at_most(count, 5);
     let mut passed = false; // whether the sound was met
     let mut i = 0;
     while i < n {

@@ -1,8 +1,8 @@
 // FRM8's data up to the first sound byte, and what follows the sound.
 ghost use mathlib.Core.Path.{_≡_};
 ghost use Rattle.chunk.specs.Append.{Appended};
-ghost use Rattle.file_layout.specs.Parts.{partsOf};
-ghost use Rattle.file_layout.specs.Sides.{named, front, back};
+ghost use Rattle.file_tree.specs.Parts.{partsOf};
+ghost use Rattle.file_tree.specs.Sides.{named, front, back};
 use build_options::area::Area;
 use build_options::options::Options;
 use chunk::Cursor;
@@ -100,5 +100,5 @@ pub fn back(
         comments,
         lengths,
     );
-    crate::callers::caller_chunks(end, out, raw, callers)
+    caller_chunks::callers::caller_chunks(end, out, raw, callers)
 }

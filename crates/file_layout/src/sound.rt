@@ -4,10 +4,10 @@ ghost use Prim.Native.Nat.{_*_, _-_, _^_, min};
 ghost use Rattle.chunk.specs.Append.{Appended};
 ghost use Rattle.dst.specs.Frame.{frameBytes};
 ghost use Rattle.build_options.specs.Area.{positions};
-ghost use Rattle.file_layout.specs.Sound.{soundSize, soundHead};
+ghost use Rattle.file_tree.specs.Sound.{soundSize, soundHead};
 use build_options::area::Area;
 use chunk::Cursor;
-use prop::compression::Sound;
+use prop_fields::compression::Sound;
 
 // The length of DSD sound: so many frames.
 fn dsd_size(area: Area) -> u64

@@ -6,7 +6,7 @@ use Prim.Native.Nat.{ℕ, _+_, _-_, _≤_, min}
 use native.Mathlib.Omega.{arith}
 use lib.ListN.{length, length-append, length-take, length-drop}
 use Rattle.chunk.specs.Chunk.{pad}
-use Rattle.chunk.specs.Time.{timeBytes}
+use Rattle.frame_time.specs.Time.{timeBytes}
 use Rattle.chunk.proofs.NumberLaws.{length-be}
 use Rattle.chunk.proofs.ChunkLaws.{length-pad, length-counts}
 use Rattle.texts.specs.Extent.{part}

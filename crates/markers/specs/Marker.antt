@@ -5,13 +5,13 @@ use mathlib.Core.List.{List, [], _++_}
 use lib.ListN.{length}
 use Rattle.chunk.specs.Number.{be}
 use Rattle.chunk_names.specs.Name.{ascii}
-use Rattle.chunk.specs.Time.{timeOf, timeBytes}
+use Rattle.frame_time.specs.Time.{timeOf, timeBytes}
 use Rattle.chunk.specs.Chunk.{counts}
 use Rattle.tree.specs.Tree.{Chunks, stop, leaf}
 use Rattle.texts.specs.Extent.{part}
 use Rattle.texts.specs.Text.{textBytes, textPad}
 use Rattle.texts.specs.declared.text.TextRule.{TextRule}
-use Rattle.prop.specs.Start.{startFrame}
+use Rattle.prop_fields.specs.Start.{startFrame}
 use Rattle.markers.specs.declared.marker.MarkerKind.{MarkerKind}
 use Rattle.markers.specs.declared.marker.MarkerKind.the-variants.{TrackStart, TrackStop, ProgramStart, Index}
 use Rattle.markers.specs.declared.marker.MarkerText.{MarkerText}

@@ -9,7 +9,7 @@ ghost use Rattle.texts.specs.Extent.{part};
 ghost use Rattle.texts.specs.Text.{textPad};
 ghost use Rattle.markers.specs.Marker.{kindNumber, flagsOf, markerText, frameOf, markHead, mark};
 use chunk::Cursor;
-use prop::start::Start;
+use prop_fields::start::Start;
 use texts::extent::Extent;
 use texts::text::TextOptions;
 use texts::text::TextRule;
@@ -156,8 +156,8 @@ fn mark_head(c: Cursor, out: &mut [u8], how: Marking, m: Marker) -> Cursor
     ensures { λ r. ⌜ Appended (now (out .entry)) (c .at) (markHead how m) (now (out .exit)) (r .at) ⌝ }
 {
     let kind = m.kind;
-    let time = chunk::time::time(frame(how, m));
-    let c = c.time(out, time);
+    let time = frame_time::time::time(frame(how, m));
+    let c = frame_time::time::time_bytes(c, out, time);
     let c = c.be32(out, OFFSET);
     let c = c.be16(out, kind.value());
     let c = c.be16(out, CHANNEL);

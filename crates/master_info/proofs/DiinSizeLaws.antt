@@ -15,13 +15,13 @@ use Rattle.chunk_names.specs.declared.InfoChunk.the-variants.{EditedMasterId, M
 use Rattle.tree.proofs.TreeLaws.{bytes-stop, bytes-leaf, bytes-each-cons}
 use Rattle.texts.specs.Extent.{part}
 use Rattle.texts.specs.Text.{textBytes, isWritten}
-use Rattle.texts.specs.DiinText.{diinTextData, givenText, diinText}
-use Rattle.texts.specs.declared.diin_text.Text.{Text}
-use Rattle.texts.specs.declared.diin_text.Text.the-variants.{Absent, Given}
+use Rattle.diin_texts.specs.DiinText.{diinTextData, givenText, diinText}
+use Rattle.diin_texts.specs.declared.diin_text.Text.{Text}
+use Rattle.diin_texts.specs.declared.diin_text.Text.the-variants.{Absent, Given}
 use Rattle.texts.specs.declared.text.TextOptions.{TextOptions}
 use Rattle.texts.proofs.ExtentLaws.{length-part}
 use Rattle.texts.proofs.TextLaws.{extent-short}
-use Rattle.texts.proofs.DiinTextLaws.{length-diin-text, diin-text-tree}
+use Rattle.diin_texts.proofs.DiinTextLaws.{length-diin-text, diin-text-tree}
 use Rattle.master_info.specs.Pick.{ofTrack, firstPresent, pick}
 use Rattle.master_info.specs.Diin.{marking, markersOf, chosen, artistOf, titleOf, emid, infoChunk, infoChunks}
 use Rattle.master_info.specs.declared.pick.ArtistTitleSource.{ArtistTitleSource}

@@ -13,9 +13,9 @@ use Rattle.chunk_names.specs.declared.InfoChunk.{InfoChunk}
 use Rattle.chunk_names.specs.declared.InfoChunk.the-variants.{EditedMasterId, Markers, Artist, Title}
 use Rattle.tree.proofs.TreeLaws.{shaped-each, shaped-if}
 use Rattle.tree.proofs.ValueLaws.{counted-text}
-use Rattle.texts.specs.declared.diin_text.Text.{Text}
-use Rattle.texts.specs.declared.diin_text.Text.the-variants.{Absent, Given}
-use Rattle.texts.proofs.DiinTextLaws.{diin-text-shaped}
+use Rattle.diin_texts.specs.declared.diin_text.Text.{Text}
+use Rattle.diin_texts.specs.declared.diin_text.Text.the-variants.{Absent, Given}
+use Rattle.diin_texts.proofs.DiinTextLaws.{diin-text-shaped}
 use Rattle.markers.specs.Marker.{markHead, markData, mark}
 use Rattle.master_info.specs.Diin.{marking, artistOf, titleOf, emid, markersOf, infoChunk, infoChunks, hasDiin, diin}
 use Rattle.master_info.specs.declared.diin.Info.{Info}

@@ -10,9 +10,9 @@ use Rattle.tree.specs.Tree.{Chunks, stop, leaf, node, bytes, each}
 use Rattle.chunk_names.specs.declared.InfoChunk.{InfoChunk}
 use Rattle.chunk_names.specs.declared.InfoChunk.the-variants.{EditedMasterId, Markers, Artist, Title}
 use Rattle.texts.specs.Extent.{part}
-use Rattle.texts.specs.DiinText.{diinTextChunk}
-use Rattle.texts.specs.declared.diin_text.Text.{Text}
-use Rattle.texts.specs.declared.diin_text.Text.the-variants.{Absent, Given}
+use Rattle.diin_texts.specs.DiinText.{diinTextChunk}
+use Rattle.diin_texts.specs.declared.diin_text.Text.{Text}
+use Rattle.diin_texts.specs.declared.diin_text.Text.the-variants.{Absent, Given}
 use Rattle.markers.specs.declared.marker.Marker.{Marker}
 use Rattle.markers.specs.declared.marker.Marking.{Marking}
 use Rattle.master_info.specs.declared.diin.Info.{Info}

@@ -1,8 +1,8 @@
 -- Whose artist and title DIIN has (01: "Artist and title come from track texts (only with a source track), album texts, or the first of these present. A given
 -- text, though empty, is present"). Assumes nothing.
 use mathlib.Core.Bool.{Bool, cond}
-use Rattle.texts.specs.declared.diin_text.Text.{Text}
-use Rattle.texts.specs.declared.diin_text.Text.the-variants.{Absent, Given}
+use Rattle.diin_texts.specs.declared.diin_text.Text.{Text}
+use Rattle.diin_texts.specs.declared.diin_text.Text.the-variants.{Absent, Given}
 use Rattle.master_info.specs.declared.pick.ArtistTitleSource.{ArtistTitleSource}
 use Rattle.master_info.specs.declared.pick.ArtistTitleSource.the-variants.{Album, Track, TrackThenAlbum}
 

@@ -8,9 +8,9 @@ use crate::pick::ArtistTitle;
 use crate::pick::ArtistTitleSource;
 use chunk::Cursor;
 use chunk_names::InfoChunk;
+use diin_texts::diin_text::Text;
 use markers::marker::Marking;
-use prop::start::Start;
-use texts::diin_text::Text;
+use prop_fields::start::Start;
 use texts::text::TextOptions;
 use tracks::order::ProgramOptions;
 
@@ -115,7 +115,7 @@ fn info_chunk(
             let track = track.artist;
             let album = album.artist;
             let text = chosen(info, track, album);
-            return texts::diin_text::diin_text(c, out, *b"DIAR", pool, text, options);
+            return diin_texts::diin_text::diin_text(c, out, *b"DIAR", pool, text, options);
         }
         InfoChunk::Title => {
             let options = info.text;
@@ -124,7 +124,7 @@ fn info_chunk(
             let track = track.title;
             let album = album.title;
             let text = chosen(info, track, album);
-            return texts::diin_text::diin_text(c, out, *b"DITI", pool, text, options);
+            return diin_texts::diin_text::diin_text(c, out, *b"DITI", pool, text, options);
         }
     }
 }

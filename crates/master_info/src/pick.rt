@@ -1,7 +1,7 @@
 // Whose artist and title DIIN has: the album's or the track's.
 ghost use mathlib.Core.Path.{_≡_};
 ghost use Rattle.master_info.specs.Pick.{ofTrack, firstPresent, pick};
-use texts::diin_text::Text;
+use diin_texts::diin_text::Text;
 
 pub enum ArtistTitleSource {
     Album,

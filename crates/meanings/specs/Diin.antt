@@ -6,7 +6,7 @@ use lib.Dec.{eqb}
 use lib.ListN.{getD}
 use Rattle.chunk_names.specs.declared.InfoChunk.{InfoChunk}
 use Rattle.chunk_names.specs.declared.InfoChunk.the-variants.{EditedMasterId, Markers, Artist, Title}
-use Rattle.texts.specs.declared.diin_text.Text.{Text}
+use Rattle.diin_texts.specs.declared.diin_text.Text.{Text}
 use Rattle.master_info.specs.declared.pick.ArtistTitleSource.{ArtistTitleSource}
 use Rattle.master_info.specs.declared.pick.ArtistTitleSource.the-variants.{Album, Track, TrackThenAlbum}
 use Rattle.meanings.specs.Text.{textOf}

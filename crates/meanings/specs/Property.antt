@@ -5,12 +5,12 @@ use mathlib.Core.List.{List, map}
 use lib.Dec.{eqb}
 use Rattle.chunk_names.specs.declared.PropertyChunk.{PropertyChunk}
 use Rattle.chunk_names.specs.declared.PropertyChunk.the-variants.{SampleRate, Channels, CompressionType, AbsoluteStartTime, LoudspeakerConfiguration}
-use Rattle.prop.specs.declared.compression.Sound.{Sound}
-use Rattle.prop.specs.declared.compression.Sound.the-variants.{Dsd, Dst}
-use Rattle.prop.specs.declared.layout.Layout.{Layout}
-use Rattle.prop.specs.declared.layout.Layout.the-variants.{Stereo, ThreeTwo, FivePointOne, Unspecified}
-use Rattle.prop.specs.declared.start.Start.{Start}
-use Rattle.prop.specs.declared.start.Start.the-variants.{Absent, Given}
+use Rattle.prop_fields.specs.declared.compression.Sound.{Sound}
+use Rattle.prop_fields.specs.declared.compression.Sound.the-variants.{Dsd, Dst}
+use Rattle.prop_fields.specs.declared.layout.Layout.{Layout}
+use Rattle.prop_fields.specs.declared.layout.Layout.the-variants.{Stereo, ThreeTwo, FivePointOne, Unspecified}
+use Rattle.prop_fields.specs.declared.start.Start.{Start}
+use Rattle.prop_fields.specs.declared.start.Start.the-variants.{Absent, Given}
 
 abbrev pub soundOf : Bool → Sound
 soundOf dst = cond dst Dst Dsd

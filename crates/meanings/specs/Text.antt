@@ -5,8 +5,8 @@ use lib.Dec.{eqb}
 use Rattle.texts.specs.declared.text.TextRule.{TextRule}
 use Rattle.texts.specs.declared.text.TextRule.the-variants.{Replace, Remove, D2}
 use Rattle.texts.specs.declared.text.TextOptions.{TextOptions}
-use Rattle.texts.specs.declared.diin_text.Text.{Text}
-use Rattle.texts.specs.declared.diin_text.Text.the-variants.{Absent, Given}
+use Rattle.diin_texts.specs.declared.diin_text.Text.{Text}
+use Rattle.diin_texts.specs.declared.diin_text.Text.the-variants.{Absent, Given}
 
 -- 0 replaces by a byte, 1 removes, any other is D2
 abbrev pub ruleOf : ℕ → ℕ → TextRule

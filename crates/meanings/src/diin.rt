@@ -2,8 +2,8 @@
 ghost use mathlib.Core.Path.{_≡_};
 ghost use Rattle.meanings.specs.Diin.{givenText, sourceOf, infoChunkOf, infoOrderOf};
 use chunk_names::InfoChunk;
+use diin_texts::diin_text::Text;
 use master_info::pick::ArtistTitleSource;
-use texts::diin_text::Text;
 
 // A text of three words: whether it is given (0: no), start, length.
 pub fn given_text(words: [u32; 3]) -> Text

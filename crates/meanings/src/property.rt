@@ -2,9 +2,9 @@
 ghost use mathlib.Core.Path.{_≡_};
 ghost use Rattle.meanings.specs.Property.{soundOf, layoutOf, startOf, propertyChunkOf, propertyOrderOf};
 use chunk_names::PropertyChunk;
-use prop::compression::Sound;
-use prop::layout::Layout;
-use prop::start::Start;
+use prop_fields::compression::Sound;
+use prop_fields::layout::Layout;
+use prop_fields::start::Start;
 
 pub fn sound(dst: bool) -> Sound
     ensures { λ r. ⌜ r ≡ soundOf dst ⌝ }

@@ -1,7 +1,7 @@
 // The numbers of texts.
 ghost use mathlib.Core.Path.{_≡_};
 ghost use Rattle.meanings.specs.Text.{ruleOf, optionsOf, textOf};
-use texts::diin_text::Text;
+use diin_texts::diin_text::Text;
 use texts::extent::Extent;
 use texts::text::TextOptions;
 use texts::text::TextRule;

@@ -1,4 +1,4 @@
-pub mod LayoutLaws
+pub mod ChnlLaws
 pub mod PropertyLaws
 pub mod ReadLaws
 pub mod PropertyExamples

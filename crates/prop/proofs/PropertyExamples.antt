@@ -9,15 +9,15 @@ use Rattle.chunk.specs.Chunk.{pad, chunk, counts}
 use Rattle.tree.specs.Tree.{bytes, join, each}
 use Rattle.chunk_names.specs.declared.PropertyChunk.{PropertyChunk}
 use Rattle.chunk_names.specs.declared.PropertyChunk.the-variants.{SampleRate, Channels, CompressionType, AbsoluteStartTime, LoudspeakerConfiguration}
-use Rattle.prop.specs.Layout.{numbersOf, digit, channelName, channelCount, sixNames, channelNames, speakerCode}
-use Rattle.prop.specs.Start.{isGiven}
-use Rattle.prop.specs.Compression.{compressionData, cmprData}
+use Rattle.prop_fields.specs.Layout.{numbersOf, digit, channelName, channelCount, sixNames, channelNames, speakerCode}
+use Rattle.prop_fields.specs.Start.{isGiven}
+use Rattle.prop_fields.specs.Compression.{compressionData, cmprData}
 use Rattle.prop.specs.Property.{chnlData, idOf, contentOf, isWritten, propertyChunk, propertyChunks, property}
-use Rattle.prop.specs.declared.compression.Sound.the-variants.{Dsd, Dst}
-use Rattle.prop.specs.declared.layout.ChannelNumbers.{ChannelNumbers}
-use Rattle.prop.specs.declared.layout.Layout.the-variants.{Stereo, Unspecified}
+use Rattle.prop_fields.specs.declared.compression.Sound.the-variants.{Dsd, Dst}
+use Rattle.prop_fields.specs.declared.layout.ChannelNumbers.{ChannelNumbers}
+use Rattle.prop_fields.specs.declared.layout.Layout.the-variants.{Stereo, Unspecified}
 use Rattle.prop.specs.declared.property.Properties.{Properties}
-use Rattle.prop.specs.declared.start.Start.the-variants.{Absent}
+use Rattle.prop_fields.specs.declared.start.Start.the-variants.{Absent}
 
 -- no numbers given, and the numbers 5, 120, 999
 no-numbers : ChannelNumbers

@@ -8,41 +8,25 @@ use lib.ListN.{length, length-append}
 use Rattle.chunk.specs.Number.{be}
 use Rattle.chunk_names.specs.Name.{Name, ascii, same}
 use Rattle.chunk.specs.Chunk.{pad, chunk, occupied, counts}
-use Rattle.chunk.specs.Time.{timeOf, timeBytes}
+use Rattle.frame_time.specs.Time.{timeOf, timeBytes}
 use Rattle.tree.specs.Tree.{bytes}
 use Rattle.tree.specs.Value.{value}
 use Rattle.chunk_names.specs.declared.PropertyChunk.{PropertyChunk}
 use Rattle.chunk_names.specs.declared.PropertyChunk.the-variants.{SampleRate, Channels, CompressionType, AbsoluteStartTime, LoudspeakerConfiguration}
-use Rattle.chunk.specs.declared.time.FrameTime.{FrameTime}
+use Rattle.frame_time.specs.declared.time.FrameTime.{FrameTime}
 use Rattle.chunk.proofs.NumberLaws.{length-be}
 use Rattle.chunk.proofs.ChunkLaws.{length-chunk, length-counts}
 use Rattle.chunk.proofs.ListLaws.{flatMap-bound}
 use Rattle.tree.proofs.TreeLaws.{bytes-leaf, bytes-each}
 use Rattle.tree.proofs.ValueLaws.{counted-text}
-use Rattle.prop.specs.Layout.{speakerCode}
-use Rattle.prop.specs.Start.{startFrame}
-use Rattle.prop.specs.Compression.{compressionData, cmprData}
+use Rattle.prop_fields.specs.Layout.{speakerCode}
+use Rattle.prop_fields.specs.Start.{startFrame}
+use Rattle.prop_fields.specs.Compression.{compressionData, cmprData}
 use Rattle.prop.specs.Property.{sampleRate, idOf, contentOf, isWritten, propertyChunk, propertyChunks}
-use Rattle.prop.specs.declared.compression.Sound.{Sound}
-use Rattle.prop.specs.declared.compression.Sound.the-variants.{Dsd, Dst}
+use Rattle.prop_fields.specs.declared.compression.Sound.{Sound}
+use Rattle.prop_fields.specs.declared.compression.Sound.the-variants.{Dsd, Dst}
 use Rattle.prop.specs.declared.property.Properties.{Properties}
-use Rattle.prop.proofs.LayoutLaws.{chnl-short}
-
--- a compression type, as it is written
-module _ (kind : Name) (name : List ℕ) where
-  compression-plain : kind ++ (length name % 256 ∷ []) ++ name ≡ counts 1 kind name
-  unfolding counts be
-  compression-plain = append-assoc kind (length name % 256 ∷ []) name
-
-  pub compression-d1 : length kind ≡ 4 → kind ++ (length name % 256 ∷ []) ++ name ++ pad (5 + length name) ≡ compressionData kind name true
-  unfolding compressionData
-  compression-d1 four =
-      let long : length (counts 1 kind name) ≡ 5 + length name = omega (arith, length-counts 1 kind name) in
-      rw (compression-plain, long)
-
-  pub compression-no-d1 : kind ++ (length name % 256 ∷ []) ++ name ≡ compressionData kind name false
-  unfolding compressionData
-  compression-no-d1 = compression-plain ∙ sym (append-nil (counts 1 kind name))
+use Rattle.prop.proofs.ChnlLaws.{chnl-short}
 
 -- the data of CMPR has at most 20 bytes
 cmpr-short : (sound : Sound) (d1 : Bool) → length (cmprData sound d1) ≤ 20

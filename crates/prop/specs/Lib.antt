@@ -1,4 +1,1 @@
-pub mod Layout
-pub mod Start
-pub mod Compression
 pub mod Property

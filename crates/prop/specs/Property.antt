@@ -6,16 +6,16 @@ use mathlib.Core.List.{List, _++_, flatMap}
 use lib.ListN.{length}
 use Rattle.chunk.specs.Number.{be}
 use Rattle.chunk_names.specs.Name.{Name, ascii}
-use Rattle.chunk.specs.Time.{timeOf, timeBytes}
+use Rattle.frame_time.specs.Time.{timeOf, timeBytes}
 use Rattle.tree.specs.Tree.{Chunks, stop, leaf, node, each}
 use Rattle.chunk_names.specs.declared.PropertyChunk.{PropertyChunk}
 use Rattle.chunk_names.specs.declared.PropertyChunk.the-variants.{SampleRate, Channels, CompressionType, AbsoluteStartTime, LoudspeakerConfiguration}
-use Rattle.prop.specs.declared.layout.Layout.{Layout}
-use Rattle.prop.specs.declared.layout.Layout.the-variants.{Stereo, ThreeTwo, FivePointOne, Unspecified}
+use Rattle.prop_fields.specs.declared.layout.Layout.{Layout}
+use Rattle.prop_fields.specs.declared.layout.Layout.the-variants.{Stereo, ThreeTwo, FivePointOne, Unspecified}
 use Rattle.prop.specs.declared.property.Properties.{Properties}
-use Rattle.prop.specs.Layout.{channelNames, speakerCode}
-use Rattle.prop.specs.Compression.{cmprData}
-use Rattle.prop.specs.Start.{isGiven, startFrame}
+use Rattle.prop_fields.specs.Layout.{channelNames, speakerCode}
+use Rattle.prop_fields.specs.Compression.{cmprData}
+use Rattle.prop_fields.specs.Start.{isGiven, startFrame}
 
 -- samples a second
 abbrev pub sampleRate : ℕ

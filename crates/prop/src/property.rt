@@ -8,12 +8,12 @@ ghost use Rattle.chunk.specs.Number.{be};
 ghost use Rattle.chunk_names.specs.Name.{Name, ascii};
 ghost use Rattle.tree.specs.Tree.{bytes};
 ghost use Rattle.prop.specs.Property.{lscoIsOn, idOf, contentOf, isWritten, propertyChunk, propertyChunks, property};
-use crate::compression::Sound;
-use crate::layout::ChannelNumbers;
-use crate::layout::Layout;
-use crate::start::Start;
 use chunk::Cursor;
 use chunk_names::PropertyChunk;
+use prop_fields::compression::Sound;
+use prop_fields::layout::ChannelNumbers;
+use prop_fields::layout::Layout;
+use prop_fields::start::Start;
 
 const SAMPLE_RATE: u32 = 2_822_400;
 
@@ -122,24 +122,24 @@ fn content(c: Cursor, out: &mut [u8], p: Properties, part: PropertyChunk) -> Cur
             let layout = p.layout;
             let channels = p.channels;
             let numbers = p.numbers;
-            let count = crate::layout::channel_count(layout, channels);
-            let names = crate::layout::channels(layout, numbers);
+            let count = prop_fields::layout::channel_count(layout, channels);
+            let names = prop_fields::layout::channels(layout, numbers);
             return chnl_data(c, out, count, names);
         }
         PropertyChunk::CompressionType => {
             let sound = p.sound;
             let d1 = p.d1;
-            return crate::compression::cmpr_data(c, out, sound, d1);
+            return prop_fields::compression::cmpr_data(c, out, sound, d1);
         }
         PropertyChunk::AbsoluteStartTime => {
             let start = p.start;
             let frame = start.frame();
-            let time = chunk::time::time(frame as u64);
-            return c.time(out, time);
+            let time = frame_time::time::time(frame as u64);
+            return frame_time::time::time_bytes(c, out, time);
         }
         PropertyChunk::LoudspeakerConfiguration => {
             let layout = p.layout;
-            let code = crate::layout::speaker_code(layout);
+            let code = prop_fields::layout::speaker_code(layout);
             return c.be16(out, code);
         }
     }

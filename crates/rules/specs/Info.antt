@@ -5,8 +5,8 @@ use mathlib.Core.List.{List, [], _∷_, map}
 use Rattle.texts.specs.Extent.{part}
 use Rattle.chunk_names.specs.declared.InfoChunk.{InfoChunk}
 use Rattle.texts.specs.declared.text.TextRule.the-variants.{Remove}
-use Rattle.texts.specs.declared.diin_text.Text.{Text}
-use Rattle.texts.specs.declared.diin_text.Text.the-variants.{Absent, Given}
+use Rattle.diin_texts.specs.declared.diin_text.Text.{Text}
+use Rattle.diin_texts.specs.declared.diin_text.Text.the-variants.{Absent, Given}
 use Rattle.master_info.specs.declared.diin.Info.{Info}
 use Rattle.refusal.specs.Verdict.{refuseIf, firstOf, when}
 use Rattle.refusal.specs.Orders.{infoRank, eachOnce}

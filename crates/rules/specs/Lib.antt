@@ -1,4 +1,3 @@
 pub mod Limits
 pub mod Property
 pub mod Info
-pub mod Local

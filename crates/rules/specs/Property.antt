@@ -6,12 +6,12 @@ use lib.Dec.{eqb, ltb}
 use lib.ListN.{take}
 use Rattle.texts.specs.Text.{printable}
 use Rattle.chunk_names.specs.declared.PropertyChunk.{PropertyChunk}
-use Rattle.prop.specs.Start.{isGiven, startFrame}
-use Rattle.prop.specs.declared.start.Start.{Start}
-use Rattle.prop.specs.declared.layout.ChannelNumbers.{ChannelNumbers}
+use Rattle.prop_fields.specs.Start.{isGiven, startFrame}
+use Rattle.prop_fields.specs.declared.start.Start.{Start}
+use Rattle.prop_fields.specs.declared.layout.ChannelNumbers.{ChannelNumbers}
 use Rattle.refusal.specs.Verdict.{refuseIf, firstOf, when}
 use Rattle.refusal.specs.Orders.{propertyRank, eachOnce}
-use Rattle.refusal.specs.ChannelNumbers.{numberFaults}
+use Rattle.channel_rules.specs.ChannelNumbers.{numberFaults}
 use Rattle.refusal.specs.declared.verdict.Verdict.{Verdict}
 use Rattle.build_options.specs.declared.area.Area.{Area}
 use Rattle.build_options.specs.declared.options.Options.{Options}

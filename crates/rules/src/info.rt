@@ -3,10 +3,10 @@ ghost use mathlib.Core.Path.{_≡_};
 ghost use Rattle.rules.specs.Info.{idWrong, infoFaults};
 use build_options::area::Area;
 use chunk_names::InfoChunk;
+use diin_texts::diin_text::Text;
 use master_info::diin::Info;
 use refusal::verdict::Verdict;
 use refusal::verdict::refuse_if;
-use texts::diin_text::Text;
 use texts::text::TextRule;
 
 fn id_wrong(raw: &[u8], id: Text) -> bool

@@ -1,14 +1,13 @@
 // What PROP tells, and the replacement byte (24 to 29).
 ghost use mathlib.Core.Path.{_≡_};
-ghost use Prim.Native.Nat.{min};
 ghost use Rattle.rules.specs.Property.{replacementWrong, numbersFault, startFault, propertyFaults};
 use build_options::area::Area;
 use build_options::options::Options;
 use build_options::options::Replacement;
 use build_options::options::Settings;
 use chunk_names::PropertyChunk;
-use prop::layout::ChannelNumbers;
-use prop::start::Start;
+use prop_fields::layout::ChannelNumbers;
+use prop_fields::start::Start;
 use refusal::verdict::Verdict;
 use refusal::verdict::refuse_if;
 
@@ -42,15 +41,6 @@ fn words(n: [u16; 6]) -> [u32; 6]
     ]
 }
 
-fn at_most_six(count: u32) -> usize
-    ensures { λ r. ⌜ r ≡ min count 6 ⌝ }
-{
-    if count <= 6 {
-        return count as usize;
-    }
-    6
-}
-
 // 25 to 27, of an unspecified layout whose channel numbers are given
 fn numbers_fault(area: Area, numbers: ChannelNumbers) -> Verdict
     ensures { λ r. ⌜ r ≡ numbersFault area numbers ⌝ }
@@ -58,9 +48,9 @@ fn numbers_fault(area: Area, numbers: ChannelNumbers) -> Verdict
     let layout = area.layout;
     let list = numbers.numbers;
     let list = words(list);
-    let n = at_most_six(numbers.count);
+    let n = refusal::orders::at_most(numbers.count, 6);
     let v25 = refuse_if(numbers.count != area.channels as u32, 25, 0);
-    let v26 = refusal::channel_numbers::number_faults(&list[..n]);
+    let v26 = channel_rules::channel_numbers::number_faults(&list[..n]);
     let v = v25.or_else(v26);
     v.when(build_options::area::is_unspecified(layout) & numbers.given)
 }

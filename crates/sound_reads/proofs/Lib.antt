@@ -1,9 +1,5 @@
 pub mod PlaceLaws
 pub mod PositionsLaws
-pub mod WalkLaws
 pub mod SameLaws
 pub mod LentLaws
 pub mod PartLaws
-pub mod FillLaws
-pub mod DsdLaws
-pub mod RealLaws

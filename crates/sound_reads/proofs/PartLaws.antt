@@ -83,6 +83,14 @@ map-take g zero xs = refl
 map-take g (suc k) [] = refl
 map-take g (suc k) (x ∷ xs) = ap (λ (l : List ℕ). g x ∷ l) (map-take g k xs)
 
+map-drop : {A : Type 0} (g : A → ℕ) (k : ℕ) (xs : List A) → map g (drop k xs) ≡ drop k (map g xs)
+map-drop g zero xs = refl
+map-drop g (suc k) [] = refl
+map-drop g (suc k) (x ∷ xs) = map-drop g k xs
+
+pub map-slice : {A : Type 0} (g : A → ℕ) (a b : ℕ) (xs : List A) → map g (slice a b xs) ≡ slice a b (map g xs)
+map-slice g a b xs = map-drop g a (take b xs) ∙ ap (drop a) (map-take g b xs)
+
 -- Sound that is made of units: f is the unit of an element of xs.
 module _ {A : Type 0} (f : A → List ℕ) where
   abbrev pub unitSizes : List A → List ℕ

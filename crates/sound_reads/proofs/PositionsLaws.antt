@@ -1,19 +1,21 @@
 -- The laws of `positions` of specs/Positions.antt: which positions so many bytes from a place on touch. Assumes nothing.
-use mathlib.Core.Path.{_≡_, refl}
+use mathlib.Core.Path.{_≡_, refl, sym}
 use mathlib.Core.Logic.{_⊎_, inl, inr, ⊎-elim}
-use mathlib.Core.Bool.{Bool, true, false}
+use mathlib.Core.Bool.{Bool, true, false, _||_}
 use mathlib.Core.List.{List}
 use Prim.Native.Nat.{ℕ, zero, suc, _+_, _-_, _≤_, _<_, min, max}
 use native.Mathlib.Nat.{not-suc-le-zero}
 use native.Mathlib.Omega.{arith}
-use borrow.Author.Tests.{lt-ltb, le-ltb}
+use borrow.Author.Tests.{lt-ltb, le-ltb, eqb-true, eqb-false, leb-true, leb-false}
+use lib.Dec.{eqb, leb}
 use lib.ListN.{length, getD}
 use Rattle.sound_reads.specs.declared.place.Positions.{Positions}
+use Rattle.sound_reads.specs.declared.place.Place.{Place}
 use Rattle.dst.specs.Start.{start}
-use Rattle.sound_reads.specs.Place.{firstOf}
+use Rattle.sound_reads.specs.Place.{firstOf, byteAt}
 use Rattle.sound_reads.specs.Positions.{touched, pastLast, range, positions}
 use Rattle.dst.proofs.StartLaws.{start-suc, start-mono}
-use Rattle.window.proofs.TestLaws.{lt-or-le}
+use Rattle.window.proofs.TestLaws.{either, neither, lt-or-le}
 use Rattle.sound_reads.proofs.PlaceLaws.{first-is, Found, found}
 
 -- the last that passes
@@ -152,3 +154,22 @@ module _ (ss : List ℕ) (from count : ℕ) where
         (λ f. ⊎-elim (λ c. inr (from-found f c)) (λ z. inl (inl (omega arith))) (lt-or-le 0 count))
         (λ l. inl (inr l))
         (found ss from)
+
+-- the test for nothing to be touched: no byte is wanted, or the place is past the last of n positions
+pub none-touched : (ss : List ℕ) (a : Place) (count n : ℕ) → length ss ≡ n → eqb count 0 || leb n (a .position) ≡ true
+    → record { first = 0; end = 0 } ≡ positions ss (byteAt ss a) count
+none-touched ss a count n e h =
+    sym
+    (positions-none ss (byteAt ss a) count
+    (⊎-elim
+    (λ z. inl (eqb-true count 0 z))
+    (λ l.
+    let k = leb-true n (a .position) l in
+    let m = start-mono ss (length ss) (a .position) (omega arith) in
+    inr (omega arith))
+    (either (eqb count 0) (leb n (a .position)) h)))
+
+pub some-touched : (count n position : ℕ) → eqb count 0 || leb n position ≡ false → (0 < count) × (position < n)
+some-touched count n position h =
+    let t = neither (eqb count 0) (leb n position) h in
+    (⊎-elim (λ l. l) (λ z. absurd (eqb-false count 0 (t .0) (omega arith))) (lt-or-le 0 count), leb-false n position (t .1))

@@ -20,7 +20,7 @@ pub enum Fill {
 
 // The answer where the place sought was found in the sound of n positions, and the buffer is filled up to `at`: the sound's units are skipped,
 // and past them what is left.
-pub(crate) fn filled(at: usize, place: Place, n: usize) -> Fill
+pub fn filled(at: usize, place: Place, n: usize) -> Fill
     ensures { λ r. ⌜ r ≡ Filled (record { at = at; skip = cond (ltb (place .position) n) 0 (place .within) }) ⌝ }
 {
     if place.position < n {
@@ -73,13 +73,7 @@ fn is_times(bytes: usize, w: usize, n: usize) -> bool
 }
 
 // Whether what is lent for positions of these lengths is theirs: the same lengths, as many DST bytes, and w bytes of content for each.
-pub(crate) fn is_lent(
-    needed: &[u32],
-    lengths: &[u32],
-    frames: &[u8],
-    w: usize,
-    contents: &[u8],
-) -> bool
+pub fn is_lent(needed: &[u32], lengths: &[u32], frames: &[u8], w: usize, contents: &[u8]) -> bool
     ensures { λ r. ⌜ r ≡ isLent w (now (needed .entry)) (now (lengths .entry)) (now (frames .entry)) (now (contents .entry)) ⌝ }
 {
     same_lengths(lengths, needed)

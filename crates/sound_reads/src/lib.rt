@@ -1,5 +1,3 @@
-// Reads of the sound, DST and DSD: which positions a read needs, and the bytes that it gets.
+// What reads of DST and of DSD sound share: places and positions, and whether what is lent has the right lengths.
 pub mod place; // place.rt: a byte of the sound, by position and place within that position's unit
 pub mod lent; // lent.rt: whether what a read is lent has the right lengths
-pub mod dst_data; // dst_data.rt: which positions a read of DST sound needs, and the read
-pub mod dsd_data; // dsd_data.rt: the same of DSD sound

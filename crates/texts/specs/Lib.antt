@@ -1,3 +1,2 @@
 pub mod Extent
 pub mod Text
-pub mod DiinText

@@ -1,4 +1,3 @@
-// Texts, and the chunks of DSDIFF that are one text: DIAR and DITI.
+// Texts: parts of a lent pool, and their bytes.
 pub mod extent; // extent.rt: a part of a lent pool
 pub mod text; // text.rt: Unicode values as text bytes
-pub mod diin_text; // diin_text.rt: DIAR and DITI

@@ -1,7 +1,7 @@
 -- What the words of a build's inputs mean. Assumes nothing.
 use Prim.Native.Nat.{ℕ}
 use mathlib.Core.List.{List, [], _∷_}
-use Rattle.prop.specs.declared.layout.ChannelNumbers.{ChannelNumbers}
+use Rattle.prop_fields.specs.declared.layout.ChannelNumbers.{ChannelNumbers}
 use Rattle.checks.specs.Inputs.{Inputs}
 use Rattle.build_options.specs.declared.area.Area.{Area}
 use Rattle.build_options.specs.declared.options.Options.{Options}

@@ -9,7 +9,7 @@ use crate::word::word;
 use build_options::area::Area;
 use build_options::options::Options;
 use master_info::pick::ArtistTitle;
-use prop::layout::ChannelNumbers;
+use prop_fields::layout::ChannelNumbers;
 
 pub fn area_of(words: &[u32]) -> Area
     ensures { λ r. ⌜ r ≡ areaOf (now (words .entry)) ⌝ }

@@ -1,7 +1,7 @@
 // A word of a list. One past the end is 0; one that stands for a u8 or a u16 counts by its low bits; a switch is on if its word is not 0.
 ghost use mathlib.Core.Path.{_≡_};
 ghost use Rattle.words.specs.Word.{wordOf, byteOf, halfOf, isSet, textAt};
-use texts::diin_text::Text;
+use diin_texts::diin_text::Text;
 
 pub fn word(words: &[u32], i: usize) -> u32
     ensures { λ r. ⌜ r ≡ wordOf (now (words .entry)) i ⌝ }

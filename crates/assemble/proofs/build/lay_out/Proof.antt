@@ -1,6 +1,6 @@
 -- `build::lay_out` meets its contract. Assumes nothing.
 use native.Mathlib.Omega.{arith}
-use Rattle.file_layout.proofs.SizeLaws.{sound-low}
+use Rattle.file_tree.proofs.SizeLaws.{sound-low}
 use Rattle.assemble.proofs.BuildLaws.{front-fits, back-fits, header-long, trailer-long, header-filled, trailer-filled, short-header, short-trailer, sound-long, built}
 use borrow.Author.Needs.{needs}
 use Rattle.assemble.proofs.build.lay_out.Statement.{statement}

@@ -66,7 +66,8 @@ use Rattle.build_options.proofs.options.Options as Op
 use Rattle.build_options.proofs.options.Options.Laws as Op′
 use Rattle.assemble.specs.declared.build.Answer.{Answer}
 use Rattle.dsdiff.specs.declared.marker.Marker.{Marker}
-use Rattle.assemble.specs.Build.{inputsOf, Builds}
+use Rattle.checks.specs.Inputs.{inputsOf}
+use Rattle.assemble.specs.Build.{Builds}
 use Rattle.dsdiff.specs.Marker.{lookedAt}
 use Rattle.dsdiff.specs.Table.{noRows, filled}
 use Rattle.dsdiff.proofs.Zeros.{zeros, made, made-typed, rep-made, made-in}

@@ -10,9 +10,9 @@ use lib.ListN.{length, take}
 use Rattle.chunk.specs.Append.{Appended}
 use Rattle.chunk_names.specs.declared.LocalChunk.the-variants.{Property}
 use Rattle.chunk.proofs.AppendLaws.{none}
-use Rattle.file_layout.specs.Parts.{partsOf}
-use Rattle.file_layout.specs.Sides.{hasSound, side, localsBytes}
-use Rattle.file_layout.proofs.SideLaws.{passed-next}
+use Rattle.file_tree.specs.Parts.{partsOf}
+use Rattle.file_tree.specs.Sides.{hasSound, side, localsBytes}
+use Rattle.file_tree.proofs.SideLaws.{passed-next}
 use Rattle.file_layout.proofs.WriteLaws.{side-none, side-then}
 use Rattle.file_layout.proofs.locals.local_chunks.Statement.{statement}
 use Rattle.file_layout.proofs.locals.local_chunks.Tie as tie
@@ -34,7 +34,7 @@ loop-holds c =
     (search needs, search needs, (search needs, rw (side-none which) (none (search needs) (search needs))))
 
 array-copy-out-name : tie.Need-array-copy-out-name Inv-loop μ-loop
-array-copy-out-name c = omega (arith, c .before .before .at-most-five .ensures)
+array-copy-out-name c = omega (arith, c .before .before .at-most .ensures)
 
 loop-again : tie.Need-loop-again Inv-loop μ-loop
 loop-again c =
@@ -45,7 +45,7 @@ loop-again c =
     let order = start .args .t4 in
     let i = turn .loop .i in
     let five : length order ≡ 5 = start .good .1 .1 .1 .0 .1 .0 .1 in
-    let more : i < length order = omega (arith, turn .before .at-most-five .ensures, sound .before .before .loop-test .taken) in (
+    let more : i < length order = omega (arith, turn .before .at-most .ensures, sound .before .before .loop-test .taken) in (
       search needs,
       rw (passed-next order i Property more, ← turn .loop .inv .1, ← sound .is-sound .ensures),
       ⊎-elim
@@ -63,7 +63,7 @@ loop-again c =
 returns : tie.Need-returns Inv-loop μ-loop
 returns c =
     let all : c .before .loop .i ≡ min (c .before .before .before .before .before .before .before .before .before .before .args .count) 5 =
-    omega (arith, c .before .before .at-most-five .ensures, c .loop-test .left) in
+    omega (arith, c .before .before .at-most .ensures, c .loop-test .left) in
     rw all at (c .before .loop .inv .2 .1)
 
 pub local-chunks-spec : {M : Type 1} → statement M

@@ -1,6 +1,6 @@
 -- `sound::sound_head` meets its contract, for either kind of sound. Assumes nothing.
 use borrow.Author.Needs.{needs}
-use Rattle.file_layout.specs.Sound.{soundSize, soundHead}
+use Rattle.file_tree.specs.Sound.{soundSize, soundHead}
 use Rattle.file_layout.proofs.sound.sound_head.Statement.{statement}
 use Rattle.file_layout.proofs.sound.sound_head.Tie as tie
 

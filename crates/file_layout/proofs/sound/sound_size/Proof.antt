@@ -1,7 +1,7 @@
 -- `sound::sound_size` meets its contract, for either kind of sound. Assumes nothing.
 use native.Mathlib.Omega.{arith}
 use borrow.Author.Needs.{needs}
-use Rattle.file_layout.specs.Sound.{soundSize}
+use Rattle.file_tree.specs.Sound.{soundSize}
 use Rattle.file_layout.proofs.sound.sound_size.Statement.{statement}
 use Rattle.file_layout.proofs.sound.sound_size.Tie as tie
 

@@ -15,7 +15,7 @@ returns c =
     let c₁ = c₂ .before .before .before .before in
     let time = c₁ .before .before in
     rw (← time .before .frame .ensures, ← time .time .ensures, ← c₃ .before .value .ensures, ← c₅ .before .flags .ensures)
-    (c₁ .time2 .ensures then c₂ .be32 .ensures then c₃ .be16 .ensures then c₄ .be162 .ensures then c₅ .be163 .ensures)
+    (c₁ .time-bytes .ensures then c₂ .be32 .ensures then c₃ .be16 .ensures then c₄ .be162 .ensures then c₅ .be163 .ensures)
 
 pub mark-head-spec : {M : Type 1} → statement M
 mark-head-spec =

@@ -1,6 +1,6 @@
 -- `diin::info_chunk` meets its contract, chunk by chunk. Assumes nothing.
 use borrow.Author.Needs.{needs}
-use Rattle.texts.proofs.DiinTextLaws.{diin-text-tree}
+use Rattle.diin_texts.proofs.DiinTextLaws.{diin-text-tree}
 use Rattle.master_info.specs.Diin.{infoChunk}
 use Rattle.master_info.proofs.diin.info_chunk.Statement.{statement}
 use Rattle.master_info.proofs.diin.info_chunk.Tie as tie

@@ -1,7 +1,8 @@
 -- `property::content` meets its contract, chunk by chunk. Assumes nothing.
-use Rattle.prop.proofs.LayoutLaws.{channels-few, chnl-count}
+use Rattle.prop_fields.proofs.LayoutLaws.{channels-few}
+use Rattle.prop.proofs.ChnlLaws.{chnl-count}
 use Rattle.prop.specs.Property.{contentOf}
-use Rattle.prop.specs.Layout.{channelNames}
+use Rattle.prop_fields.specs.Layout.{channelNames}
 use Prim.Native.Nat.{_≤_}
 use borrow.Author.Needs.{needs}
 use Rattle.prop.proofs.property.content.Statement.{statement}
@@ -35,7 +36,7 @@ returns-4 : tie.Need-returns-4
 unfolding contentOf
 returns-4 c =
     let time = c .before .before .before .before in
-    rw (time .before .before .enum-told4 .given .1, ← time .before .frame .ensures, ← time .time .ensures) (c .before .before .time2 .ensures)
+    rw (time .before .before .enum-told4 .given .1, ← time .before .frame .ensures, ← time .time .ensures) (c .before .before .time-bytes .ensures)
 
 returns-5 : tie.Need-returns-5
 unfolding contentOf

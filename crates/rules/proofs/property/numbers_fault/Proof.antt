@@ -9,7 +9,7 @@ use Rattle.rules.proofs.property.numbers_fault.Tie as tie
 
 slice-aggregate-number-faults : tie.Need-slice-aggregate-number-faults
 slice-aggregate-number-faults c =
-    sym (length-take-le _ _ (omega (arith, c .before .before .before .before .at-most-six .ensures, c .before .before .before .before .before .words .ok .1 .0 .1)))
+    sym (length-take-le _ _ (omega (arith, c .before .before .before .before .at-most .ensures, c .before .before .before .before .before .words .ok .1 .0 .1)))
 
 returns : tie.Need-returns
 unfolding numbersFault
@@ -20,7 +20,7 @@ returns c =
       c .before .before .before .or-else .ensures,
       c .before .before .before .before .number-faults .ensures,
       c .before .before .before .before .before .before .refuse-if .ensures,
-      c .before .before .before .before .before .before .before .before .before .at-most-six .ensures,
+      c .before .before .before .before .before .before .before .before .before .at-most .ensures,
       c .before .before .before .before .before .before .before .before .before .before .words .ensures,
     )
 

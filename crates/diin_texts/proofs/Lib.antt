@@ -1,0 +1,3 @@
+pub mod DiinTextLaws
+pub mod ValueLaws
+pub mod DiinTextExamples

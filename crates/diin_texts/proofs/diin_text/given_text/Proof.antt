@@ -1,0 +1,46 @@
+-- `diin_text::given_text` meets its contract: nothing of an empty text, else a chunk whose size is measured. Assumes nothing.
+use native.Mathlib.Omega.{arith}
+use borrow.Author.Needs.{needs}
+use denote.Ref.{now}
+use Rattle.chunk.specs.Chunk.{counts}
+use Rattle.chunk.proofs.AppendLaws.{none, measured}
+use Rattle.chunk.proofs.ChunkLaws.{chunked}
+use Rattle.diin_texts.specs.DiinText.{givenText, diinTextData}
+use Rattle.texts.specs.Extent.{part}
+use Rattle.texts.specs.Text.{textBytes}
+use Rattle.texts.proofs.TextLaws.{left-out, written, extent-short}
+use Rattle.diin_texts.proofs.DiinTextLaws.{length-diin-text}
+use Rattle.diin_texts.proofs.diin_text.given_text.Statement.{statement}
+use Rattle.diin_texts.proofs.diin_text.given_text.Tie as tie
+
+returns : tie.Need-returns
+unfolding givenText
+returns c =
+    let o = c .before .before .before .before .before .args .options in
+    rw (left-out o (c .before .before .text-count .ensures) (c .before .writes .ensures) (c .if1 .taken)) (none (search needs) (search needs))
+
+returns-2 : tie.Need-returns-2
+unfolding givenText diinTextData counts
+returns-2 c =
+    let c₃ = c .before .before in
+    let c₂ = c₃ .before .before .before .before in
+    let c₁ = c₂ .before .before .before .before in
+    let c₀ = c₁ .before .before .before in
+    let go = c₀ .before .before .before in
+    let start = go .before .before .before .before .before in
+    let count = go .before .before .text-count .ensures in
+    let o = start .args .options in
+    let text = textBytes (o .rule) (part (now (start .args .pool)) (start .args .text)) in
+    let short = extent-short (o .rule) (now (start .args .pool)) (start .args .text) in
+    rw (written o count (go .before .writes .ensures) (go .if1 .left))
+    (chunked (start .args .id) (c₀ .diin-text-data .result .at)
+    (measured {bs = diinTextData text o} (rw (c₀ .before .before .new .ensures, count) at (c₀ .diin-text-data .ensures)) (omega (arith, short, length-diin-text text o)))
+    (c₁ .chunk-head .ensures)
+    (rw count at (c₂ .diin-text-data2 .ensures))
+    (c₃ .pad .ensures))
+
+pub given-text-spec : {M : Type 1} → statement M
+given-text-spec =
+    tie.close
+    (tie.spec (λ c κs. tt) (λ c κs. tt) returns (λ c κs. tt) (λ c. search needs) (λ c κs. tt)
+    (λ c κs. tt) (λ c κs. tt) (λ c κs. tt) (λ c. search needs) returns-2)

@@ -1,0 +1,2 @@
+// The texts of DIIN: DIAR and DITI.
+pub mod diin_text; // diin_text.rt: DIAR and DITI

@@ -1,0 +1,2 @@
+pub mod DsdLaws
+pub mod RealLaws

@@ -1,0 +1,35 @@
+-- The index of the frames (01: "DSTI holds per frame an 8-byte offset of the DSTF header (12 more under `FrameData`) and a 4-byte length").
+-- Assumes nothing.
+use Prim.Native.Nat.{ℕ, _*_}
+use mathlib.Core.Path.{_≡_}
+use mathlib.Core.Bool.{Bool}
+use mathlib.Core.List.{List, [], _∷_, _++_}
+use lib.ListN.{length, take, drop}
+use Rattle.chunk.specs.Append.{moved}
+use Rattle.chunk.specs.Number.{be}
+use Rattle.chunk_names.specs.Name.{ascii}
+use Rattle.dst.specs.Unit.{unitSize}
+use Rattle.dst_index.specs.declared.index.DstIndexOffset.{DstIndexOffset}
+use Rattle.dst_index.specs.declared.index.DstIndexOffset.the-variants.{ChunkHeader, FrameData}
+
+-- how far past the DSTF header's first byte an offset leads
+abbrev pub shiftOf : DstIndexOffset → ℕ
+shiftOf ChunkHeader = 0
+shiftOf FrameData = 12
+
+-- an entry
+unfoldable pub entry : ℕ → ℕ → List ℕ
+entry offset l = be 8 offset ++ be 4 l
+
+-- the entries of frames with these lengths, of which the first has this offset (offsets stop at the largest u64)
+unfoldable pub index : Bool → ℕ → List ℕ → List ℕ
+index crc at [] = []
+index crc at (l ∷ ls) = entry at l ++ index crc (moved at (unitSize crc l)) ls
+
+-- DSTI, of entries whose first has this offset: its size, at most the largest u64 (which says that it does not fit), and the entries
+unfoldable pub dsti : Bool → ℕ → List ℕ → List ℕ
+dsti crc at ls = ascii "DSTI" ++ be 8 (moved 0 (12 * length ls)) ++ index crc at ls
+
+-- at a place of a file stands x
+abbrev pub Stands : List ℕ → ℕ → List ℕ → Type 0
+Stands file place x = take (length x) (drop place file) ≡ x

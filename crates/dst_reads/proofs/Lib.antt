@@ -1,0 +1,3 @@
+pub mod WalkLaws
+pub mod FillLaws
+pub mod RealLaws

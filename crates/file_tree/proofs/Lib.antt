@@ -1,0 +1,6 @@
+pub mod SideLaws
+pub mod SoundLaws
+pub mod FileLaws
+pub mod SizeLaws
+pub mod AcceptedLaws
+pub mod IndexLaws

@@ -1,0 +1,2 @@
+// Times of frames.
+pub mod time; // time.rt: the time of a frame

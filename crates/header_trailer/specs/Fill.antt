@@ -1,0 +1,14 @@
+-- What writing header and trailer leaves in the buffers. Assumes nothing.
+use mathlib.Core.Path.{_≡_}
+use mathlib.Core.List.{List, _++_}
+use Prim.Native.Nat.{ℕ}
+use Rattle.chunk.specs.Append.{overlay}
+use Rattle.chunk.specs.Number.{be}
+use Rattle.chunk_names.specs.Name.{ascii}
+use Rattle.checks.specs.Inputs.{Inputs}
+use Rattle.file_tree.specs.File.{frontOf, backOf}
+
+-- the buffers after the writing, where FRM8's data has so many bytes and the sound begins at `base`
+pub record Filled (x : Inputs) (size base : ℕ) (h h′ t t′ : List ℕ) : Type 0 where
+  pub header : h′ ≡ overlay h 0 (ascii "FRM8" ++ be 8 size ++ frontOf x base)
+  pub trailer : t′ ≡ overlay t 0 (backOf x base)

@@ -1,0 +1,71 @@
+// Header and trailer, written.
+ghost use Rattle.checks.specs.Inputs.{inputsOf};
+ghost use Rattle.header_trailer.specs.Fill.{Filled};
+use build_options::area::Area;
+use build_options::options::Options;
+use chunk::Cursor;
+use chunk_names::InfoChunk;
+use chunk_names::LocalChunk;
+use chunk_names::PropertyChunk;
+
+// Header and trailer, where FRM8's data has so many bytes and the sound begins at `base`.
+pub fn fill(
+    size: u64,
+    base: u64,
+    area: Area,
+    options: Options,
+    property_order: [PropertyChunk; 5],
+    info_order: [InfoChunk; 4],
+    local_order: [LocalChunk; 5],
+    local_count: u32,
+    pool: &[u32],
+    raw: &[u8],
+    tracks: &[u32],
+    markers: &[u32],
+    comments: &[u32],
+    callers: &[u32],
+    lengths: &[u32],
+    head: &mut [u8],
+    tail: &mut [u8],
+)
+    ensures { λ _. ⌜ Filled (inputsOf area options «property_order» «info_order» «local_order» «local_count» (now (pool .entry)) (now (raw .entry)) (now (tracks .entry)) (now (markers .entry)) (now (comments .entry)) (now (callers .entry)) (now (lengths .entry))) size base
+        (now (head .entry)) (now (head .exit)) (now (tail .entry)) (now (tail .exit)) ⌝ }
+{
+    let start = Cursor::new();
+    let c = start.chunk_head(head, *b"FRM8", size);
+    file_layout::sides::front(
+        c,
+        head,
+        base,
+        area,
+        options,
+        property_order,
+        info_order,
+        local_order,
+        local_count,
+        pool,
+        raw,
+        tracks,
+        markers,
+        comments,
+        lengths,
+    );
+    file_layout::sides::back(
+        start,
+        tail,
+        base,
+        area,
+        options,
+        property_order,
+        info_order,
+        local_order,
+        local_count,
+        pool,
+        raw,
+        tracks,
+        markers,
+        comments,
+        callers,
+        lengths,
+    );
+}

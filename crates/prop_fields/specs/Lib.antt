@@ -1,0 +1,3 @@
+pub mod Layout
+pub mod Start
+pub mod Compression
