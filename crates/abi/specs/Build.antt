@@ -2,10 +2,10 @@
 use mathlib.Core.Path.{_≡_}
 use mathlib.Core.List.{List}
 use Prim.Native.Nat.{ℕ}
-use Rattle.chunk.specs.Append.{overlay}
-use Rattle.checks.specs.Inputs.{Inputs}
+use Rattle.cursor.specs.Append.{overlay}
+use Rattle.build_options.specs.Inputs.{Inputs}
 use Rattle.file_tree.specs.File.{headerOf, trailerOf}
-use Rattle.assemble.specs.Answer.{numberOf, valuesOf}
+use Rattle.build_answer.specs.Answer.{numberOf, valuesOf}
 use Rattle.assemble.specs.Build.{buildVerdict, answerOf, bufferOf}
 
 -- of buffers h and t for header and trailer, and a for the values, as many as it has room for

@@ -4,7 +4,7 @@ use Prim.Native.Nat.{ℕ, _-_, _^_, min}
 use mathlib.Core.Bool.{Bool, cond}
 use mathlib.Core.List.{List}
 use lib.ListN.{length, drop}
-use Rattle.chunk.specs.Append.{overlay}
+use Rattle.cursor.specs.Append.{overlay}
 use Rattle.sound_reads.specs.declared.lent.Fill.{Fill}
 use Rattle.sound_reads.specs.declared.lent.Fill.the-variants.{Filled, NotLent}
 

@@ -1,7 +1,7 @@
 // A build. The words are those of `jangqeruz_verdict`.
 ghost use mathlib.Core.Path.{_≡_};
 ghost use lib.ListN.{set};
-ghost use Rattle.chunk.specs.Append.{overlay};
+ghost use Rattle.cursor.specs.Append.{overlay};
 ghost use Rattle.words.specs.Inputs.{inputsOf};
 ghost use Rattle.abi.specs.Build.{Exported};
 
@@ -47,7 +47,7 @@ pub extern "C" fn jangqeruz_build(
         words::orders::property_order(words),
         words::orders::info_order(words),
         words::orders::local_order(words),
-        words::word::word(words, 66),
+        single_words::word::word(words, 66),
         pool,
         raw,
         tracks,

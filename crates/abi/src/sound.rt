@@ -5,7 +5,7 @@ ghost use mathlib.Core.List.{[], _∷_};
 ghost use Prim.Native.Nat.{_*_};
 ghost use lib.Dec.{eqb};
 ghost use lib.ListN.{length, replicate};
-ghost use Rattle.chunk.specs.Append.{Appended, moved};
+ghost use Rattle.cursor.specs.Append.{Appended, moved};
 ghost use Rattle.checksum.specs.Crc.{crcOf};
 ghost use Rattle.dst.specs.Frame.{frameBytes, plainBytes, dsdSound};
 ghost use Rattle.dst.specs.Unit.{sound, sizes};
@@ -15,7 +15,7 @@ ghost use Rattle.dst_index.specs.Index.{shiftOf, index};
 ghost use Rattle.sound_reads.specs.Lent.{isLent, framesWith, contentsWith};
 ghost use Rattle.meanings.specs.Sound.{offsetOf};
 ghost use Rattle.abi.specs.Sound.{countOf, Count};
-use chunk::Cursor;
+use cursor::Cursor;
 use sound_reads::lent::Fill;
 use window::window::Window;
 

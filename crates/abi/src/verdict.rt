@@ -1,7 +1,7 @@
 // The verdict on the inputs of a build. The single values are words, each at its own place, as Inputs.antt of the crate words lists them. A word past
 // the end is 0; one that stands for a u8 or a u16 counts by its low bits; a switch is on if its word is not 0.
 ghost use mathlib.Core.Path.{_≡_};
-ghost use Rattle.checks.specs.Inputs.{verdict};
+ghost use Rattle.checks.specs.InputVerdict.{verdict};
 ghost use Rattle.words.specs.Inputs.{inputsOf};
 ghost use Rattle.abi.specs.Verdict.{answer};
 use refusal::verdict::Verdict;
@@ -34,7 +34,7 @@ pub extern "C" fn jangqeruz_verdict(
         words::orders::property_order(words),
         words::orders::info_order(words),
         words::orders::local_order(words),
-        words::word::word(words, 66),
+        single_words::word::word(words, 66),
         pool,
         raw,
         tracks,

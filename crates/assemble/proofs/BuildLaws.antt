@@ -4,20 +4,24 @@ use mathlib.Core.List.{List, _++_}
 use Prim.Native.Nat.{ℕ, _+_, _-_, _^_, _≤_, _<_, min}
 use native.Mathlib.Nat.{zero-add}
 use native.Mathlib.Omega.{arith}
-use borrow.Author.Tests.{lt-ltb, le-ltb}
+use borrow.Author.Tests.{ltb-false}
+use lib.Dec.{ltb}
 use lib.ListN.{length, drop}
-use Rattle.chunk.specs.Append.{overlay}
-use Rattle.chunk.specs.Number.{be}
+use Rattle.cursor.specs.Append.{overlay}
+use Rattle.cursor.specs.Number.{be}
 use Rattle.chunk_names.specs.Name.{ascii}
-use Rattle.chunk.proofs.AppendLaws.{overlay-room}
+use Rattle.cursor.proofs.AppendLaws.{overlay-room}
 use Rattle.refusal.specs.declared.verdict.Verdict.{Verdict}
 use Rattle.refusal.specs.declared.verdict.Verdict.the-variants.{Accepted, Refused}
-use Rattle.checks.specs.Inputs.{Inputs, verdict}
+use Rattle.refusal.proofs.VerdictLaws.{after, if-accepted}
+use Rattle.room_rules.specs.Room.{roomFaults}
+use Rattle.build_options.specs.Inputs.{Inputs}
+use Rattle.checks.specs.InputVerdict.{verdict}
 use Rattle.file_tree.specs.File.{frontOf, backOf, place, soundLength, formSize, headerOf, trailerOf, Ordered}
 use Rattle.file_tree.proofs.FileLaws.{length-front, length-back, length-header}
-use Rattle.file_tree.proofs.SizeLaws.{front-low, back-low, sound-low}
-use Rattle.assemble.specs.declared.build.Answer.{Answer}
-use Rattle.assemble.specs.declared.build.Answer.the-variants as answer
+use Rattle.accepted_file.proofs.SizeLaws.{front-low, back-low, sound-low}
+use Rattle.build_answer.specs.declared.answer.Answer.{Answer}
+use Rattle.build_answer.specs.declared.answer.Answer.the-variants as answer
 use Rattle.header_trailer.specs.declared.measure.Lengths.{Lengths}
 use Rattle.assemble.specs.Build.{roomFault, buildVerdict, Outcome}
 use Rattle.header_trailer.specs.Measure.{Measured}
@@ -71,30 +75,23 @@ sound-long x ok sized e = omega (arith, e, sound-low x ok sized)
 
 -- THE OUTCOMES
 module _ (x : Inputs) (sized : Ordered x) (h t : List ℕ) where
-  pub short-header : {n : ℕ} → n ≡ length (headerOf x) → length h < n → Outcome x (roomFault x h t) h h t t (answer.Refused 40 n)
-  unfolding roomFault
-  short-header {n} e l =
-      let test = lt-ltb (length h) (length (headerOf x)) (omega arith) in
-      record { orders = sized; answers = rw (test, e); header = rw test; trailer = rw test }
+  pub no-room : {n m k d : ℕ} {v : Verdict} → n ≡ length (headerOf x) → m ≡ length (trailerOf x) → v ≡ roomFaults n m (length h) (length t) → v ≡ Refused k d
+      → Outcome x (roomFault x h t) h h t t (answer.Refused k d)
+  no-room {k = k} {d = d} e f g told =
+      let fault : roomFault x h t ≡ Refused k d = rw (← e, ← f, ← g) told in record { orders = sized; answers = rw fault; header = rw fault; trailer = rw fault }
 
-  pub short-trailer : {n m : ℕ} → n ≡ length (headerOf x) → m ≡ length (trailerOf x) → n ≤ length h → length t < m → Outcome x (roomFault x h t) h h t t (answer.Refused 41 m)
-  unfolding roomFault
-  short-trailer e f l k =
-      let first = le-ltb (length h) (length (headerOf x)) (omega arith) in
-      let test = lt-ltb (length t) (length (trailerOf x)) (omega arith) in
-      record { orders = sized; answers = rw (first, test, f); header = rw (first, test); trailer = rw (first, test) }
-
-  pub built : {n m s : ℕ} {h′ t′ : List ℕ} → n ≡ length (headerOf x) → m ≡ length (trailerOf x) → n ≤ length h → m ≤ length t → s ≡ soundLength x
-      → h′ ≡ overlay h 0 (headerOf x) → t′ ≡ overlay t 0 (trailerOf x) → Outcome x (roomFault x h t) h h′ t t′ (answer.Built n s m)
-  unfolding roomFault
-  built e f l k s p q =
-      let first = le-ltb (length h) (length (headerOf x)) (omega arith) in
-      let test = le-ltb (length t) (length (trailerOf x)) (omega arith) in
+  pub built : {n m s : ℕ} {v : Verdict} {h′ t′ : List ℕ} → n ≡ length (headerOf x) → m ≡ length (trailerOf x) → v ≡ roomFaults n m (length h) (length t) → v ≡ Accepted
+      → s ≡ soundLength x → h′ ≡ overlay h 0 (headerOf x) → t′ ≡ overlay t 0 (trailerOf x) → Outcome x (roomFault x h t) h h′ t t′ (answer.Built n s m)
+  unfolding roomFaults
+  built {n} {m} e f g k s p q =
+      let none : roomFault x h t ≡ Accepted = rw (← e, ← f, ← g) k in
+      let both = after (ltb (length h) (length (headerOf x))) 40 (length (headerOf x)) none in
+      let last = if-accepted (ltb (length t) (length (trailerOf x))) 41 (length (trailerOf x)) (both .1) in
       record {
         orders = sized;
-        answers = rw (first, test, e, f, s);
-        header = rw (first, test) (p ∙ laid h (headerOf x) (omega arith));
-        trailer = rw (first, test) (q ∙ laid t (trailerOf x) (omega arith));
+        answers = rw (none, e, f, s);
+        header = rw none (p ∙ laid h (headerOf x) (ltb-false (length h) (length (headerOf x)) (both .0)));
+        trailer = rw none (q ∙ laid t (trailerOf x) (ltb-false (length t) (length (trailerOf x)) last));
       }
 
   pub refused : {v : Verdict} {n d : ℕ} → v ≡ verdict x → v ≡ Refused n d → Outcome x (buildVerdict x h t) h h t t (answer.Refused n d)

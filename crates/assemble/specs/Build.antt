@@ -1,25 +1,22 @@
 -- THE OUTCOME OF A BUILD: the answer, and what the two buffers hold in the end (01: "An accepted build answers the lengths of header (up to the first sound byte), sound and
 -- trailer; buffer bytes past them stay"; "Each returns its number and a detail, 0 unless named; no buffer alters"). Assumes nothing.
 use mathlib.Core.Path.{_≡_}
-use mathlib.Core.List.{List, [], _∷_, _++_}
+use mathlib.Core.List.{List, _++_}
 use Prim.Native.Nat.{ℕ}
-use lib.Dec.{ltb}
 use lib.ListN.{length, drop}
-use Rattle.refusal.specs.Verdict.{refuseIf, orElse, firstOf}
+use Rattle.refusal.specs.Verdict.{orElse}
+use Rattle.room_rules.specs.Room.{roomFaults}
 use Rattle.refusal.specs.declared.verdict.Verdict.{Verdict}
 use Rattle.refusal.specs.declared.verdict.Verdict.the-variants.{Accepted, Refused}
-use Rattle.checks.specs.Inputs.{Inputs, verdict}
+use Rattle.build_options.specs.Inputs.{Inputs}
+use Rattle.checks.specs.InputVerdict.{verdict}
 use Rattle.file_tree.specs.File.{soundLength, headerOf, trailerOf, Ordered}
-use Rattle.assemble.specs.declared.build.Answer.{Answer}
-use Rattle.assemble.specs.declared.build.Answer.the-variants as answer
+use Rattle.build_answer.specs.declared.answer.Answer.{Answer}
+use Rattle.build_answer.specs.declared.answer.Answer.the-variants as answer
 
--- a buffer is short of what it is to hold; the detail is the length needed
-abbrev pub short : ℕ → List ℕ → List ℕ → Verdict
-short number content buffer = refuseIf (ltb (length buffer) (length content)) number (length content)
-
--- 40: "Header buffer short; detail, the length needed". 41: "Trailer buffer short; likewise"
-unfoldable pub roomFault : Inputs → List ℕ → List ℕ → Verdict
-roomFault x header trailer = firstOf (short 40 (headerOf x) header ∷ short 41 (trailerOf x) trailer ∷ [])
+-- 40 and 41 of the buffers for header and trailer
+abbrev pub roomFault : Inputs → List ℕ → List ℕ → Verdict
+roomFault x header trailer = roomFaults (length (headerOf x)) (length (trailerOf x)) (length header) (length trailer)
 
 -- the first refusal of a build that is lent two buffers: 1 to 39, then 40 and 41
 abbrev pub buildVerdict : Inputs → List ℕ → List ℕ → Verdict

@@ -1,66 +1,16 @@
 // A build: the verdict on its inputs, the lengths of what is to be written, and then the writing.
 ghost use mathlib.Core.Path.{_≡_};
 ghost use Rattle.refusal.specs.declared.verdict.Verdict.the-variants.{Accepted};
-ghost use Rattle.checks.specs.Inputs.{inputsOf, verdict};
-ghost use Rattle.assemble.specs.Answer.{numberOf, valuesOf};
+ghost use Rattle.build_options.specs.Inputs.{inputsOf};
+ghost use Rattle.checks.specs.InputVerdict.{verdict};
 ghost use Rattle.assemble.specs.Build.{Builds, LaysOut};
+use build_answer::answer::Answer;
 use build_options::area::Area;
 use build_options::options::Options;
 use chunk_names::InfoChunk;
 use chunk_names::LocalChunk;
 use chunk_names::PropertyChunk;
 use refusal::verdict::Verdict;
-
-// What a build answers.
-pub enum Answer {
-    Built {
-        header: u64,
-        sound: u64,
-        trailer: u64,
-    }, // the lengths of the three
-    Refused {
-        number: u8,
-        detail: u64,
-    }, // document 01's number of the refusal
-}
-
-impl Answer {
-    // Document 01's number, 0 where nothing is refused.
-    pub fn number(self) -> u8
-        ensures { λ r. ⌜ r ≡ numberOf self ⌝ }
-    {
-        match self {
-            Answer::Built {
-                header: _,
-                sound: _,
-                trailer: _,
-            } => {
-                return 0;
-            }
-            Answer::Refused { number, detail: _ } => {
-                return number;
-            }
-        }
-    }
-
-    // The lengths of header, sound and trailer, or the detail of a refusal and zeros.
-    pub fn values(self) -> [u64; 3]
-        ensures { λ r. ⌜ r ≡ valuesOf self ⌝ }
-    {
-        match self {
-            Answer::Built {
-                header,
-                sound,
-                trailer,
-            } => {
-                return [header, sound, trailer];
-            }
-            Answer::Refused { number: _, detail } => {
-                return [detail, 0, 0];
-            }
-        }
-    }
-}
 
 // What an accepted build does: measure, see that the buffers have room, write.
 fn lay_out(
@@ -103,41 +53,37 @@ fn lay_out(
     let before = m.front as u64;
     let behind = m.back as u64;
     let base = 12 + before;
-    if (header.len() as u64) < base {
-        return Answer::Refused {
-            number: 40,
-            detail: base,
-        };
-    }
-    if (trailer.len() as u64) < behind {
-        return Answer::Refused {
-            number: 41,
-            detail: behind,
-        };
-    }
-    header_trailer::fill::fill(
-        before + sound + behind,
-        base,
-        area,
-        options,
-        property_order,
-        info_order,
-        local_order,
-        local_count,
-        pool,
-        raw,
-        tracks,
-        markers,
-        comments,
-        callers,
-        lengths,
-        header,
-        trailer,
-    );
-    Answer::Built {
-        header: base,
-        sound,
-        trailer: behind,
+    let v = room_rules::room::room_faults(base, behind, header.len(), trailer.len());
+    match v {
+        Verdict::Refused { number, detail } => {
+            return Answer::Refused { number, detail };
+        }
+        Verdict::Accepted => {
+            header_trailer::fill::fill(
+                before + sound + behind,
+                base,
+                area,
+                options,
+                property_order,
+                info_order,
+                local_order,
+                local_count,
+                pool,
+                raw,
+                tracks,
+                markers,
+                comments,
+                callers,
+                lengths,
+                header,
+                trailer,
+            );
+            return Answer::Built {
+                header: base,
+                sound,
+                trailer: behind,
+            };
+        }
     }
 }
 

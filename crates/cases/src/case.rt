@@ -96,7 +96,7 @@ pub fn verdict(words: &[u32], raw: &[u8], rows: &[u32], spans: [usize; 14]) -> V
         words::orders::property_order(words),
         words::orders::info_order(words),
         words::orders::local_order(words),
-        words::word::word(words, 66),
+        single_words::word::word(words, 66),
         list(rows, spans, 0),
         raw,
         list(rows, spans, 2),

@@ -3,7 +3,7 @@ use crate::number::number;
 use crate::part::byte;
 use crate::part::find;
 use crate::part::part;
-use words::word::word;
+use single_words::word::word;
 
 // Where the next number goes, and where the row that it is in begins.
 struct Pen {

@@ -15,7 +15,7 @@ use Rattle.prop_fields.specs.Layout.{channelCount}
 use Rattle.prop_fields.specs.Start.{isGiven, startFrame}
 use Rattle.refusal.specs.Verdict.{orElse}
 use Rattle.refusal.specs.Below.{any}
-use Rattle.rows.specs.Extents.{tooLarge, outsidePool}
+use Rattle.row_extents.specs.Extents.{tooLarge, outsidePool}
 use Rattle.refusal.specs.Orders.{propertyRank, infoRank, localRank, times, eachOnce}
 use Rattle.rows.specs.Lengths.{lengthWrong, lengthsWrong}
 use Rattle.comment_faults.specs.Comments.{commentFaults}
@@ -23,7 +23,7 @@ use Rattle.refusal.specs.declared.verdict.Verdict.{Verdict}
 use Rattle.refusal.specs.declared.verdict.Verdict.the-variants.{Accepted}
 use Rattle.rows.specs.declared.row.Row.the-variants.{Text, Caller, Track, Marker, Comment}
 use Rattle.refusal.proofs.VerdictLaws.{or-accepted, after, if-accepted, neither, inside, none-so}
-use Rattle.rows.proofs.RowFaultLaws.{RowsFit, rows-fit, not-not}
+use Rattle.row_extents.proofs.RowFaultLaws.{RowsFit, rows-fit, not-not}
 use Rattle.comment_faults.proofs.CommentFaultLaws.{few-written}
 use Rattle.build_options.specs.Area.{positions, isDst}
 use Rattle.area_rules.specs.Area.{lengthsWanted, longestPlaytime, areaFault, lengthsFault, rangeFault, areaFaults}
@@ -33,7 +33,8 @@ use Rattle.area_rules.specs.Master.{trackFaults}
 use Rattle.rules.specs.Property.{replacementWrong, numbersFault, lastFrameOfDay, startFault, propertyFaults}
 use Rattle.rules.specs.Info.{infoFaults}
 use Rattle.local_rules.specs.Local.{repeats, lacks, soundBeforeProp, lacksAny, localFaults}
-use Rattle.checks.specs.Inputs.{Inputs, givenFaults, chunkFaults, verdict}
+use Rattle.build_options.specs.Inputs.{Inputs}
+use Rattle.checks.specs.InputVerdict.{givenFaults, chunkFaults, verdict}
 
 -- a condition that is met, and a fault that is not
 wanted : {a b : Bool} → a ≡ true → (a && b) ≡ false → b ≡ false

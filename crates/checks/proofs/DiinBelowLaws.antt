@@ -22,10 +22,11 @@ use Rattle.track_markers.proofs.SizeLaws.{ShortText, ShortTexts, ShortTitles, t
 use Rattle.master_info.proofs.DiinSizeLaws.{ShortGiven, Limited, diin-room}
 use Rattle.refusal.specs.declared.verdict.Verdict.the-variants.{Accepted}
 use Rattle.rows.specs.declared.row.Row.the-variants as row
-use Rattle.rows.proofs.RowFaultLaws.{RowsFit}
+use Rattle.row_extents.proofs.RowFaultLaws.{RowsFit}
 use Rattle.build_options.specs.Options.{extentOf, effective, infoOf}
 use Rattle.rules.specs.Limits.{longestText}
-use Rattle.checks.specs.Inputs.{Inputs, verdict}
+use Rattle.build_options.specs.Inputs.{Inputs}
+use Rattle.checks.specs.InputVerdict.{verdict}
 use Rattle.checks.proofs.AcceptedLaws.{tags-fit, emid-fits, tracks-fit, markers-fit}
 
 given-short : (t : Text) → extentOf t .length ≤ longestText → ShortGiven longestText t

@@ -18,7 +18,7 @@ use Rattle.rows.specs.Lengths.{lengthsWrong}
 use Rattle.build_options.specs.declared.area.Area.{Area}
 use Rattle.texts.specs.Extent.{part}
 use Rattle.texts.specs.Text.{printable}
-use Rattle.rows.specs.Extents.{tooLarge, outsidePool}
+use Rattle.row_extents.specs.Extents.{tooLarge, outsidePool}
 use Rattle.rows.specs.Scalars.{hasNoScalar, noScalars}
 use Rattle.faults.specs.Caller.{callerFaults}
 use Rattle.comment_faults.specs.Comments.{commentFaults}
@@ -27,7 +27,8 @@ use Rattle.rules.specs.Limits.{anyTooLarge, anyOutside, anyNoScalar, limitFault
 use Rattle.area_rules.specs.Master.{sourceFault, editedMasterFault, trackFaults}
 use Rattle.rules.specs.Info.{infoFaults}
 use Rattle.local_rules.specs.Local.{lacksAny, localFaults}
-use Rattle.checks.specs.Inputs.{Inputs, givenFaults, chunkFaults, verdict}
+use Rattle.build_options.specs.Inputs.{Inputs}
+use Rattle.checks.specs.InputVerdict.{givenFaults, chunkFaults, verdict}
 use Rattle.area_rules.specs.Area.{areaFault, lengthsFault, rangeFault, areaFaults}
 use Rattle.rules.specs.Property.{numbersFault, startFault, propertyFaults}
 

@@ -1,6 +1,6 @@
 // The verdict on the inputs of a build: the first refusal of document 01's list.
 ghost use mathlib.Core.Path.{_≡_};
-ghost use Rattle.checks.specs.Inputs.{givenFaults, chunkFaults, verdict};
+ghost use Rattle.checks.specs.InputVerdict.{givenFaults, chunkFaults, verdict};
 use build_options::area::Area;
 use build_options::options::Options;
 use build_options::options::Settings;

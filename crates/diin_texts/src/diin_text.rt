@@ -1,11 +1,13 @@
 // The artist and the title of DIIN: the chunks DIAR and DITI.
 ghost use mathlib.Core.List.{_++_};
-ghost use Rattle.chunk.specs.Append.{Appended};
-ghost use Rattle.chunk.specs.Number.{be};
+ghost use Rattle.cursor.specs.Append.{Appended};
+ghost use Rattle.cursor.specs.Number.{be};
 ghost use Rattle.texts.specs.Extent.{part};
 ghost use Rattle.texts.specs.Text.{textBytes, textPad};
 ghost use Rattle.diin_texts.specs.DiinText.{diinText, givenText};
-use chunk::Cursor;
+use chunk::chunks::chunk_head;
+use chunk::chunks::pad;
+use cursor::Cursor;
 use texts::extent::Extent;
 use texts::text::TextOptions;
 
@@ -56,9 +58,9 @@ fn given_text(
     let start = Cursor::new();
     let end = diin_text_data(start, &mut empty, count, pool, text, options);
     let size = end.at as u64;
-    let c = c.chunk_head(out, id, size);
+    let c = chunk_head(c, out, id, size);
     let c = diin_text_data(c, out, count, pool, text, options);
-    c.pad(out, size)
+    pad(c, out, size)
 }
 
 // The data: the count, the text, and its pad if that is counted.

@@ -12,13 +12,14 @@ use lib.Dec.{lit≤}
 use lib.ListN.{length, take, drop, replicate, length-append, length-replicate, take-append-drop}
 use lib.Seq.{sets, sets-eq, drop-drop, paste, length-paste, take-paste, drop-paste, take-at}
 use Rattle.refusal.specs.declared.verdict.Verdict.the-variants.{Refused}
-use Rattle.rows.specs.Extents.{tooLarge}
+use Rattle.row_extents.specs.Extents.{tooLarge}
 use Rattle.rows.specs.declared.row.Row.the-variants as row
 use Rattle.markers.specs.declared.marker.MarkerKind.the-variants.{Index}
 use Rattle.build_options.specs.declared.options.Options.{Options}
 use Rattle.rules.specs.Limits.{anyTooLarge, limitFaults, mostMarkers, longestText}
-use Rattle.checks.specs.Inputs.{Inputs, givenFaults, verdict}
-use Rattle.assemble.specs.declared.build.Answer.{Answer}
+use Rattle.build_options.specs.Inputs.{Inputs}
+use Rattle.checks.specs.InputVerdict.{givenFaults, verdict}
+use Rattle.build_answer.specs.declared.answer.Answer.{Answer}
 use Rattle.dsdiff.specs.declared.marker.Marker.{Marker}
 use Rattle.assemble.specs.Build.{Builds}
 use Rattle.dsdiff.specs.Marker.{rowOf, rowsOf, lookedAt}

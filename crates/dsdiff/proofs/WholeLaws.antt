@@ -5,7 +5,7 @@ use Prim.Native.Nat.{ℕ, _-_, _*_, _<_}
 use native.Mathlib.Omega.{arith}
 use lib.ListN.{length, take, drop, getD}
 use lib.Seq.{take-at}
-use Rattle.chunk.specs.Number.{num}
+use Rattle.cursor.specs.Number.{num}
 use Rattle.chunk_names.specs.Name.{ascii}
 use Rattle.chunk.specs.Chunk.{chunk}
 use Rattle.tree.specs.Tree.{bytes}
@@ -16,15 +16,16 @@ use Rattle.prop_fields.specs.declared.compression.Sound.the-variants.{Dst}
 use Rattle.refusal.specs.declared.verdict.Verdict.{Verdict}
 use Rattle.refusal.specs.declared.verdict.Verdict.the-variants.{Accepted, Refused}
 use Rattle.refusal.proofs.VerdictLaws.{or-accepted}
-use Rattle.checks.specs.Inputs.{Inputs, verdict}
+use Rattle.build_options.specs.Inputs.{Inputs}
+use Rattle.checks.specs.InputVerdict.{verdict}
 use Rattle.file_tree.specs.Parts.{parts, indexOf}
 use Rattle.file_tree.specs.Sound.{Fits, soundBytes}
 use Rattle.file_tree.specs.File.{headerOf, trailerOf, fileOf}
 use Rattle.file_tree.proofs.FileLaws.{length-header}
-use Rattle.file_tree.proofs.AcceptedLaws.{accepted-file}
-use Rattle.file_tree.proofs.IndexLaws.{index-leads}
-use Rattle.assemble.specs.declared.build.Answer.{Answer}
-use Rattle.assemble.specs.declared.build.Answer.the-variants.{Built}
+use Rattle.accepted_file.proofs.AcceptedLaws.{accepted-file}
+use Rattle.accepted_file.proofs.IndexLaws.{index-leads}
+use Rattle.build_answer.specs.declared.answer.Answer.{Answer}
+use Rattle.build_answer.specs.declared.answer.Answer.the-variants.{Built}
 use Rattle.assemble.specs.Build.{buildVerdict, Outcome, Builds}
 
 -- a build that answers lengths was accepted, and its buffers begin with header and trailer

@@ -2,7 +2,7 @@
 ghost use mathlib.Core.Path.{_≡_};
 ghost use lib.ListN.{take};
 ghost use Prim.Native.Nat.{_-_, _^_, min};
-ghost use Rattle.chunk.specs.Append.{moved};
+ghost use Rattle.cursor.specs.Append.{moved};
 ghost use Rattle.dst.specs.Unit.{unitSize, sizes};
 ghost use Rattle.dst.specs.Start.{sum, start};
 ghost use Rattle.dst.specs.Head.{dataSize};

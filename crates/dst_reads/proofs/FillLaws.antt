@@ -10,10 +10,10 @@ use native.Mathlib.Omega.{arith}
 use borrow.Rule.Slice.PartMut.{midOf}
 use lib.Dec.{ltb}
 use lib.ListN.{length, take, drop, getD, length-map, take-append-drop}
-use Rattle.chunk.specs.Number.{be}
+use Rattle.cursor.specs.Number.{be}
 use Rattle.chunk_names.specs.Name.{ascii}
 use Rattle.chunk.specs.Chunk.{chunk, occupied}
-use Rattle.chunk.proofs.NumberLaws.{length-be}
+use Rattle.cursor.proofs.NumberLaws.{length-be}
 use Rattle.chunk.proofs.ChunkLaws.{length-chunk}
 use Rattle.chunk.proofs.ListLaws.{flatMap-append, flatMap-one}
 use Rattle.window.specs.declared.window.Window.{Window}

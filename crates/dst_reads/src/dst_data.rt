@@ -3,7 +3,7 @@ ghost use mathlib.Core.Path.{_≡_};
 ghost use Prim.Native.Nat.{_*_};
 ghost use lib.ListN.{length};
 ghost use Rattle.chunk_names.specs.Name.{ascii};
-ghost use Rattle.chunk.specs.Number.{be};
+ghost use Rattle.cursor.specs.Number.{be};
 ghost use Rattle.chunk.specs.Chunk.{chunk};
 ghost use Rattle.checksum.specs.Crc.{crcOf};
 ghost use Rattle.dst.specs.Frame.{plainBytes};
@@ -16,7 +16,8 @@ ghost use Rattle.sound_reads.specs.Lent.{neededAt, isLent, lentFrames, framesWi
 use crate::walk::locate;
 use crate::walk::touched;
 use checksum::crc::crc;
-use chunk::Cursor;
+use chunk::chunks::chunk_head;
+use cursor::Cursor;
 use dst::frame::plain_bytes;
 use sound_reads::lent::Fill;
 use sound_reads::lent::filled;
@@ -31,7 +32,7 @@ fn dstf(out: &mut [u8], w: Window, frame: &[u8]) -> Window
 {
     let mut header = [0u8; 12];
     let c = Cursor::new();
-    c.chunk_head(&mut header, *b"DSTF", frame.len() as u64);
+    chunk_head(c, &mut header, *b"DSTF", frame.len() as u64);
     let w1 = w.put(out, &header);
     let w2 = w1.put(out, frame);
     let zero = [0u8];
@@ -45,7 +46,7 @@ fn dstc_bytes(content: &[u8]) -> [u8; 16]
 {
     let mut bytes = [0u8; 16];
     let c = Cursor::new();
-    let c1 = c.chunk_head(&mut bytes, *b"DSTC", 4);
+    let c1 = chunk_head(c, &mut bytes, *b"DSTC", 4);
     c1.be32(&mut bytes, crc(content));
     bytes
 }

@@ -1,5 +1,6 @@
 use crate::print;
-use chunk::Cursor;
+use chunk::chunks::chunk;
+use cursor::Cursor;
 
 fn time(g: u64) {
     let t = frame_time::time::time(g);
@@ -51,17 +52,17 @@ pub fn chunks() {
     let c = Cursor::new();
     let mut fver = [0xEEu8; 16];
     let version = [1u8, 5, 0, 0];
-    c.chunk(&mut fver, *b"FVER", &version);
+    chunk(c, &mut fver, *b"FVER", &version);
     print::text(b"FVER:");
     print::bytes(&fver);
 
     let mut odd = [0xEEu8; 20];
-    c.chunk(&mut odd, *b"EMID", b"abc");
+    chunk(c, &mut odd, *b"EMID", b"abc");
     print::text(b"EMID, 3 bytes, of a buffer of 20:");
     print::bytes(&odd);
 
     let mut even = [0xEEu8; 20];
-    c.chunk(&mut even, *b"EMID", b"abcd");
+    chunk(c, &mut even, *b"EMID", b"abcd");
     print::text(b"EMID, 4 bytes, of a buffer of 20:");
     print::bytes(&even);
 }
@@ -69,14 +70,14 @@ pub fn chunks() {
 pub fn short_buffers() {
     let c = Cursor::new();
     let mut short = [0xEEu8; 15];
-    let d = c.chunk(&mut short, *b"EMID", b"abcd");
+    let d = chunk(c, &mut short, *b"EMID", b"abcd");
     print::text(b"EMID, 4 bytes, of a buffer of 15:");
     print::bytes(&short);
     print::text(b"cursor at ");
     print::number(d.at as u64);
 
     let mut none = [0xEEu8; 0];
-    let e = c.chunk(&mut none, *b"EMID", b"abcd");
+    let e = chunk(c, &mut none, *b"EMID", b"abcd");
     print::text(b"\nmeasured on an empty buffer: ");
     print::number(e.at as u64);
 

@@ -1,6 +1,6 @@
 // The sound of a file of two DST frames, of 3 and of 4 bytes, and the positions of DSD sound.
 use crate::print;
-use chunk::Cursor;
+use cursor::Cursor;
 use dsd_reads::dsd_data;
 use dst::unit;
 use dst_index::index::DstIndexOffset;

@@ -1,7 +1,7 @@
 // Texts and comments of random cases. The bytes that they must have were taken out of the original's files.
 use crate::print;
 use crate::text_cases;
-use chunk::Cursor;
+use cursor::Cursor;
 use diin_texts::diin_text::Text;
 use texts::extent::Extent;
 use texts::text::TextOptions;

@@ -4,9 +4,9 @@ use mathlib.Core.Bool.{Bool, true, false, cond}
 use mathlib.Core.List.{List, [], flatMap}
 use Prim.Native.Nat.{ℕ, _+_, _<_}
 use lib.ListN.{length, take, getD}
-use Rattle.chunk.specs.Append.{Appended}
+use Rattle.cursor.specs.Append.{Appended}
 use Rattle.chunk_names.specs.declared.LocalChunk.{LocalChunk}
-use Rattle.chunk.proofs.AppendLaws.{_then_, kept}
+use Rattle.cursor.proofs.AppendLaws.{_then_, kept}
 use Rattle.file_tree.specs.Sides.{isSound, onSide, hasSound, before, behind, side}
 use Rattle.file_tree.proofs.SideLaws.{side-next}
 

@@ -2,7 +2,7 @@
 ghost use mathlib.Core.Path.{_≡_};
 ghost use mathlib.Core.Bool.{cond, _&&_};
 ghost use mathlib.Core.List.{[]};
-ghost use Rattle.chunk.specs.Append.{Appended, moved};
+ghost use Rattle.cursor.specs.Append.{Appended, moved};
 ghost use Rattle.tree.specs.Tree.{bytes};
 ghost use Rattle.dst_index.specs.Index.{shiftOf, dsti};
 ghost use Rattle.prop.specs.Property.{property};
@@ -14,10 +14,10 @@ ghost use Rattle.file_tree.specs.Sides.{isSound, onSide, named, side, localByte
 use build_options::area::Area;
 use build_options::options::Options;
 use build_options::options::Settings;
-use chunk::Cursor;
 use chunk_names::InfoChunk;
 use chunk_names::LocalChunk;
 use chunk_names::PropertyChunk;
+use cursor::Cursor;
 use prop::property::Properties;
 use prop_fields::compression::Sound;
 

@@ -1,14 +1,15 @@
 // FRM8's data up to the first sound byte, and what follows the sound.
 ghost use mathlib.Core.Path.{_≡_};
-ghost use Rattle.chunk.specs.Append.{Appended};
+ghost use Rattle.cursor.specs.Append.{Appended};
 ghost use Rattle.file_tree.specs.Parts.{partsOf};
 ghost use Rattle.file_tree.specs.Sides.{named, front, back};
 use build_options::area::Area;
 use build_options::options::Options;
-use chunk::Cursor;
+use chunk::chunks::chunk;
 use chunk_names::InfoChunk;
 use chunk_names::LocalChunk;
 use chunk_names::PropertyChunk;
+use cursor::Cursor;
 
 // The version of the format.
 const VERSION: [u8; 4] = [1, 5, 0, 0];
@@ -37,7 +38,7 @@ pub fn front(
 {
     let version = VERSION;
     let c = c.name(out, *b"DSD ");
-    let c = c.chunk(out, *b"FVER", &version);
+    let c = chunk(c, out, *b"FVER", &version);
     let c = crate::locals::local_chunks(
         c,
         out,

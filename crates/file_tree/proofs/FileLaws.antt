@@ -5,13 +5,13 @@ use mathlib.Core.List.{List, [], _∷_, _++_, map, flatMap, append-assoc}
 use Prim.Native.Nat.{ℕ, _+_, _*_, _%_, _^_, _≤_, _<_}
 use native.Mathlib.Omega.{arith}
 use lib.ListN.{length, length-append}
-use Rattle.chunk.specs.Number.{be}
+use Rattle.cursor.specs.Number.{be}
 use Rattle.chunk_names.specs.Name.{ascii}
 use Rattle.chunk.specs.Chunk.{chunk, occupied}
 use Rattle.tree.specs.Tree.{Chunks, stop, leaf, node, bytes, join, each}
 use Rattle.chunk_names.specs.declared.LocalChunk.{LocalChunk}
 use Rattle.chunk_names.specs.declared.LocalChunk.the-variants.{Property, SoundData, DstIndex, EditedMasterInfo, Comments}
-use Rattle.chunk.proofs.NumberLaws.{length-be}
+use Rattle.cursor.proofs.NumberLaws.{length-be}
 use Rattle.chunk.proofs.ChunkLaws.{length-chunk}
 use Rattle.tree.proofs.TreeLaws.{bytes-stop, bytes-leaf, bytes-node, bytes-join, bytes-each, bytes-each-cons}
 use Rattle.comt.specs.Comment.{writtenComments, comtData, hasComt, comtChunk}
@@ -26,7 +26,7 @@ use Rattle.prop_fields.specs.declared.compression.Sound.{Sound}
 use Rattle.prop_fields.specs.declared.compression.Sound.the-variants.{Dsd, Dst}
 use Rattle.master_info.specs.Diin.{infoChunks, hasDiin, diin}
 use Rattle.refusal.specs.Orders.{localRank, times}
-use Rattle.checks.specs.Inputs.{Inputs}
+use Rattle.build_options.specs.Inputs.{Inputs}
 use Rattle.file_tree.specs.Parts.{Parts, parts, info, hasIndex, firstOffset, indexOf}
 use Rattle.file_tree.specs.Sound.{soundBytes, soundChunk, Fits, soundSize, soundHead}
 use Rattle.caller_chunks.specs.Caller.{callerChunk, callerChunks}

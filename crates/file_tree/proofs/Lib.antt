@@ -1,6 +1,3 @@
 pub mod SideLaws
 pub mod SoundLaws
 pub mod FileLaws
-pub mod SizeLaws
-pub mod AcceptedLaws
-pub mod IndexLaws

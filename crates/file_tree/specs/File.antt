@@ -6,7 +6,7 @@ use mathlib.Core.Bool.{cond}
 use mathlib.Core.List.{List, _++_}
 use Prim.Native.Nat.{ℕ, _+_}
 use lib.ListN.{length}
-use Rattle.chunk.specs.Number.{be}
+use Rattle.cursor.specs.Number.{be}
 use Rattle.chunk_names.specs.Name.{ascii}
 use Rattle.tree.specs.Tree.{Chunks, stop, leaf, node, join, each}
 use Rattle.chunk_names.specs.declared.LocalChunk.{LocalChunk}
@@ -15,7 +15,7 @@ use Rattle.comt.specs.Comment.{comtChunk}
 use Rattle.dst.specs.Frame.{Frame}
 use Rattle.prop.specs.Property.{property}
 use Rattle.master_info.specs.Diin.{diin}
-use Rattle.checks.specs.Inputs.{Inputs}
+use Rattle.build_options.specs.Inputs.{Inputs}
 use Rattle.file_tree.specs.Parts.{Parts, parts, properties, info, hasIndex, indexOf}
 use Rattle.file_tree.specs.Sound.{soundChunk, soundSize}
 use Rattle.caller_chunks.specs.Caller.{callerChunks}

@@ -2,7 +2,7 @@
 use mathlib.Core.Bool.{Bool, _&&_}
 use mathlib.Core.List.{List}
 use Prim.Native.Nat.{ℕ}
-use Rattle.chunk.specs.Append.{moved}
+use Rattle.cursor.specs.Append.{moved}
 use Rattle.chunk_names.specs.declared.PropertyChunk.{PropertyChunk}
 use Rattle.chunk_names.specs.declared.InfoChunk.{InfoChunk}
 use Rattle.dst_index.specs.Index.{shiftOf, index}
@@ -13,7 +13,7 @@ use Rattle.build_options.specs.declared.options.Options.{Options}
 use Rattle.build_options.specs.declared.options.Settings.{Settings}
 use Rattle.build_options.specs.Area.{isDst}
 use Rattle.build_options.specs.Options.{effective, infoOf}
-use Rattle.checks.specs.Inputs.{Inputs}
+use Rattle.build_options.specs.Inputs.{Inputs}
 
 pub record Parts : Type 0 where
   pub area : Area

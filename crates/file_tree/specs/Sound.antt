@@ -5,7 +5,7 @@ use mathlib.Core.Bool.{Bool}
 use mathlib.Core.List.{List, _++_, map}
 use Prim.Native.Nat.{ℕ, _*_}
 use lib.ListN.{length, replicate}
-use Rattle.chunk.specs.Number.{be}
+use Rattle.cursor.specs.Number.{be}
 use Rattle.chunk_names.specs.Name.{ascii}
 use Rattle.tree.specs.Tree.{Chunks, stop, leaf}
 use Rattle.dst.specs.Frame.{Frame, frameBytes, dsdSound}

@@ -2,10 +2,10 @@
 use mathlib.Core.Path.{_≡_}
 use mathlib.Core.List.{List, _++_}
 use Prim.Native.Nat.{ℕ}
-use Rattle.chunk.specs.Append.{overlay}
-use Rattle.chunk.specs.Number.{be}
+use Rattle.cursor.specs.Append.{overlay}
+use Rattle.cursor.specs.Number.{be}
 use Rattle.chunk_names.specs.Name.{ascii}
-use Rattle.checks.specs.Inputs.{Inputs}
+use Rattle.build_options.specs.Inputs.{Inputs}
 use Rattle.file_tree.specs.File.{frontOf, backOf}
 
 -- the buffers after the writing, where FRM8's data has so many bytes and the sound begins at `base`

@@ -2,8 +2,8 @@
 use mathlib.Core.Path.{_≡_}
 use Prim.Native.Nat.{ℕ}
 use lib.ListN.{length}
-use Rattle.chunk.specs.Append.{moved}
-use Rattle.checks.specs.Inputs.{Inputs}
+use Rattle.cursor.specs.Append.{moved}
+use Rattle.build_options.specs.Inputs.{Inputs}
 use Rattle.file_tree.specs.File.{frontOf, backOf, Ordered}
 use Rattle.header_trailer.specs.declared.measure.Lengths.{Lengths}
 

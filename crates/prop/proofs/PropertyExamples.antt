@@ -3,7 +3,7 @@ use mathlib.Core.Path.{_≡_, refl}
 use mathlib.Core.Bool.{Bool, true, false}
 use mathlib.Core.List.{[], _∷_, _++_, flatMap}
 use lib.ListN.{length, take}
-use Rattle.chunk.specs.Number.{be}
+use Rattle.cursor.specs.Number.{be}
 use Rattle.chunk_names.specs.Name.{ascii, propertyOrder}
 use Rattle.chunk.specs.Chunk.{pad, chunk, counts}
 use Rattle.tree.specs.Tree.{bytes, join, each}

@@ -5,7 +5,7 @@ use mathlib.Core.List.{List, [], _∷_, _++_, append-assoc, append-nil}
 use Prim.Native.Nat.{ℕ, _+_, _%_, _^_, _≤_, _<_}
 use native.Mathlib.Omega.{arith}
 use lib.ListN.{length, length-append}
-use Rattle.chunk.specs.Number.{be}
+use Rattle.cursor.specs.Number.{be}
 use Rattle.chunk_names.specs.Name.{Name, ascii, same}
 use Rattle.chunk.specs.Chunk.{pad, chunk, occupied, counts}
 use Rattle.frame_time.specs.Time.{timeOf, timeBytes}
@@ -14,7 +14,7 @@ use Rattle.tree.specs.Value.{value}
 use Rattle.chunk_names.specs.declared.PropertyChunk.{PropertyChunk}
 use Rattle.chunk_names.specs.declared.PropertyChunk.the-variants.{SampleRate, Channels, CompressionType, AbsoluteStartTime, LoudspeakerConfiguration}
 use Rattle.frame_time.specs.declared.time.FrameTime.{FrameTime}
-use Rattle.chunk.proofs.NumberLaws.{length-be}
+use Rattle.cursor.proofs.NumberLaws.{length-be}
 use Rattle.chunk.proofs.ChunkLaws.{length-chunk, length-counts}
 use Rattle.chunk.proofs.ListLaws.{flatMap-bound}
 use Rattle.tree.proofs.TreeLaws.{bytes-leaf, bytes-each}

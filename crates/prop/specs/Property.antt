@@ -4,7 +4,7 @@ use Prim.Native.Nat.{ℕ}
 use mathlib.Core.Bool.{Bool, true, cond}
 use mathlib.Core.List.{List, _++_, flatMap}
 use lib.ListN.{length}
-use Rattle.chunk.specs.Number.{be}
+use Rattle.cursor.specs.Number.{be}
 use Rattle.chunk_names.specs.Name.{Name, ascii}
 use Rattle.frame_time.specs.Time.{timeOf, timeBytes}
 use Rattle.tree.specs.Tree.{Chunks, stop, leaf, node, each}

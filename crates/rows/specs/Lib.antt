@@ -1,5 +1,4 @@
 pub mod Row
-pub mod Extents
 pub mod Scalars
 pub mod Lengths
 pub mod Durations

@@ -24,6 +24,10 @@ rowAt w words k = take w (drop (k * w) words)
 abbrev pub extentOf : ℕ → List ℕ → Extent
 extentOf w row = record { start = getD row (w - 2) 0; length = getD row (w - 1) 0 }
 
+-- the extent that row k names
+abbrev pub extentAt : Row → List ℕ → ℕ → Extent
+extentAt kind words k = extentOf (width kind) (rowAt (width kind) words k)
+
 -- the whole rows
 abbrev pub countOfRows : Row → List ℕ → ℕ
 countOfRows kind words = length words / width kind

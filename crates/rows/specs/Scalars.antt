@@ -6,8 +6,7 @@ use lib.Dec.{leb, ltb}
 use lib.ListN.{length, getD}
 use Rattle.texts.specs.Extent.{part}
 use Rattle.rows.specs.declared.row.Row.{Row}
-use Rattle.rows.specs.Row.{countOfRows}
-use Rattle.rows.specs.Extents.{extentAt}
+use Rattle.rows.specs.Row.{countOfRows, extentAt}
 use Rattle.refusal.specs.Below.{any}
 
 -- Unicode scalars are 0 to 0x10FFFF without the surrogates

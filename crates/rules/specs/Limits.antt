@@ -6,7 +6,7 @@ use mathlib.Core.Bool.{Bool, _&&_, _||_}
 use mathlib.Core.List.{List, [], _∷_}
 use lib.ListN.{length}
 use Rattle.refusal.specs.Verdict.{refuseIf, firstOf}
-use Rattle.rows.specs.Extents.{tooLarge, outsidePool}
+use Rattle.row_extents.specs.Extents.{tooLarge, outsidePool}
 use Rattle.rows.specs.Scalars.{noScalars}
 use Rattle.refusal.specs.declared.verdict.Verdict.{Verdict}
 use Rattle.rows.specs.declared.row.Row.the-variants.{Text, Caller, Track, Marker, Comment}

@@ -5,8 +5,8 @@ ghost use Rattle.rules.specs.Limits.{anyTooLarge, anyOutside, anyNoScala
 use build_options::options::Options;
 use refusal::verdict::Verdict;
 use refusal::verdict::refuse_if;
-use rows::extents::RowFaults;
-use rows::extents::extents;
+use row_extents::extents::RowFaults;
+use row_extents::extents::extents;
 use rows::row::Row;
 use rows::scalars::no_scalars;
 

@@ -9,8 +9,8 @@ use borrow.Author.Tests.{lt-ltb, le-ltb}
 use lib.Dec.{ltb}
 use lib.ListN.{length, take, drop, length-append, length-drop, length-map, drop-of-length-le, take-append-drop}
 use lib.Seq.{drop-append-add, drop-nil, take-take, slice}
-use Rattle.chunk.specs.Append.{overlay}
-use Rattle.chunk.proofs.AppendLaws.{length-overlay, overlay-out, overlay-append}
+use Rattle.cursor.specs.Append.{overlay}
+use Rattle.cursor.proofs.AppendLaws.{length-overlay, overlay-out, overlay-append}
 use Rattle.chunk.proofs.ListLaws.{flatMap-append}
 use Rattle.window.specs.declared.window.Window.{Window}
 use Rattle.sound_reads.specs.declared.place.Positions.{Positions}

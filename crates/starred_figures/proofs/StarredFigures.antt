@@ -4,7 +4,7 @@ use mathlib.Core.Bool.{Bool, true, false}
 use mathlib.Core.List.{List, [], _∷_, _++_, flatMap}
 use Prim.Native.Nat.{ℕ, _+_, _*_}
 use lib.ListN.{length, take, drop, set}
-use Rattle.chunk.specs.Number.{be, num}
+use Rattle.cursor.specs.Number.{be, num}
 use Rattle.chunk_names.specs.Name.{ascii, propertyOrder, infoOrder, localOrder}
 use Rattle.chunk.specs.Chunk.{pad, chunk, counts, occupied}
 use Rattle.chunk.specs.Rows.{firstRows, rows}
@@ -36,7 +36,7 @@ use Rattle.refusal.specs.Below.{below}
 use Rattle.refusal.specs.Orders.{times, eachOnce}
 use Rattle.refusal.specs.declared.verdict.Verdict.the-variants.{Accepted, Refused}
 use Rattle.rows.specs.Lengths.{lengthsWrong}
-use Rattle.rows.specs.Extents.{tooLarge, outsidePool}
+use Rattle.row_extents.specs.Extents.{tooLarge, outsidePool}
 use Rattle.rows.specs.Scalars.{hasNoScalar, noScalars}
 use Rattle.faults.specs.Caller.{callerFaults}
 use Rattle.comment_faults.specs.Comments.{commentFaults}
@@ -48,7 +48,8 @@ use Rattle.area_rules.specs.Master.{sourceFault, editedMasterFault, trackFaults
 use Rattle.rules.specs.Property.{numbersFault, startFault, propertyFaults}
 use Rattle.rules.specs.Info.{infoFaults}
 use Rattle.local_rules.specs.Local.{lacksAny, localFaults}
-use Rattle.checks.specs.Inputs.{Inputs, givenFaults, chunkFaults, verdict}
+use Rattle.build_options.specs.Inputs.{Inputs}
+use Rattle.checks.specs.InputVerdict.{givenFaults, chunkFaults, verdict}
 use Rattle.file_tree.specs.Parts.{parts, properties, indexOf}
 use Rattle.file_tree.specs.Sound.{soundSize, soundHead}
 use Rattle.caller_chunks.specs.Caller.{callerChunks}

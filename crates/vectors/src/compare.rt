@@ -3,7 +3,7 @@ use crate::answer::Wanted;
 use crate::number::byte;
 use crate::number::plus;
 use crate::span::Span;
-use assemble::build::Answer;
+use build_answer::answer::Answer;
 
 // What a buffer is filled with before a build.
 pub const FILL: u8 = 0xA5;

@@ -15,7 +15,7 @@ pub fn fill(file: &[u8], at: usize, rows: &mut [u32]) {
 
 // Where the list ends whose count stands at `at`.
 pub fn end(rows: &[u32], at: usize) -> usize {
-    plus(plus(at, 1), words::word::word(rows, at) as usize)
+    plus(plus(at, 1), single_words::word::word(rows, at) as usize)
 }
 
 // That list, an empty one where there is no room for it.

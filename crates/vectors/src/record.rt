@@ -8,7 +8,7 @@ use crate::number::PAST;
 use crate::number::plus;
 use crate::span;
 use crate::span::Span;
-use assemble::build::Answer;
+use build_answer::answer::Answer;
 
 // How many words a record begins with. The pool is behind them.
 const WORDS: usize = 67;
@@ -65,7 +65,7 @@ fn build(
         words::orders::property_order(front),
         words::orders::info_order(front),
         words::orders::local_order(front),
-        words::word::word(front, 66),
+        single_words::word::word(front, 66),
         list(front, WORDS),
         raw,
         list(back, 0),

@@ -2,7 +2,7 @@
 use Prim.Native.Nat.{ℕ}
 use mathlib.Core.List.{List, [], _∷_}
 use Rattle.prop_fields.specs.declared.layout.ChannelNumbers.{ChannelNumbers}
-use Rattle.checks.specs.Inputs.{Inputs}
+use Rattle.build_options.specs.Inputs.{Inputs}
 use Rattle.build_options.specs.declared.area.Area.{Area}
 use Rattle.build_options.specs.declared.options.Options.{Options}
 use Rattle.meanings.specs.Sound.{offsetOf}
@@ -10,7 +10,7 @@ use Rattle.meanings.specs.Property.{soundOf, layoutOf, startOf, propertyOrderOf
 use Rattle.meanings.specs.Diin.{sourceOf, infoOrderOf}
 use Rattle.meanings.specs.Local.{localOrderOf}
 use Rattle.meanings.specs.Options.{switchOf, replacementOf}
-use Rattle.words.specs.Word.{wordOf, byteOf, halfOf, bytesOf, isSet, textAt}
+use Rattle.single_words.specs.Word.{wordOf, byteOf, halfOf, bytesOf, isSet, textAt}
 
 -- words 0 to 5
 unfoldable pub areaOf : List ℕ → Area

@@ -1,15 +1,15 @@
 // The area and the options of a build: words 0 to 51.
 ghost use mathlib.Core.Path.{_≡_};
 ghost use Rattle.words.specs.Inputs.{areaOf, numbersOf, choicesOf};
-use crate::word::byte;
-use crate::word::half;
-use crate::word::is_set;
-use crate::word::text_at;
-use crate::word::word;
 use build_options::area::Area;
 use build_options::options::Options;
 use master_info::pick::ArtistTitle;
 use prop_fields::layout::ChannelNumbers;
+use single_words::word::byte;
+use single_words::word::half;
+use single_words::word::is_set;
+use single_words::word::text_at;
+use single_words::word::word;
 
 pub fn area_of(words: &[u32]) -> Area
     ensures { λ r. ⌜ r ≡ areaOf (now (words .entry)) ⌝ }

@@ -1,4 +1,3 @@
 // What a list of words means: the inputs of a build that are single values, each at its own place, as specs/Inputs.antt lists them.
-pub mod word; // word.rt: one word, as a number, a switch or a text
 pub mod orders; // orders.rt: the three orders
 pub mod inputs; // inputs.rt: the area and the options

@@ -3,11 +3,11 @@ ghost use mathlib.Core.Path.{_≡_};
 ghost use Rattle.meanings.specs.Property.{propertyOrderOf};
 ghost use Rattle.meanings.specs.Diin.{infoOrderOf};
 ghost use Rattle.meanings.specs.Local.{localOrderOf};
-ghost use Rattle.words.specs.Word.{bytesOf};
-use crate::word::byte;
+ghost use Rattle.single_words.specs.Word.{bytesOf};
 use chunk_names::InfoChunk;
 use chunk_names::LocalChunk;
 use chunk_names::PropertyChunk;
+use single_words::word::byte;
 
 pub fn property_order(words: &[u32]) -> [PropertyChunk; 5]
     ensures { λ r. ⌜ r ≡ propertyOrderOf (bytesOf (now (words .entry)) 52 5) ⌝ }

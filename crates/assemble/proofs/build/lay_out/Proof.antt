@@ -1,7 +1,7 @@
 -- `build::lay_out` meets its contract. Assumes nothing.
 use native.Mathlib.Omega.{arith}
-use Rattle.file_tree.proofs.SizeLaws.{sound-low}
-use Rattle.assemble.proofs.BuildLaws.{front-fits, back-fits, header-long, trailer-long, header-filled, trailer-filled, short-header, short-trailer, sound-long, built}
+use Rattle.accepted_file.proofs.SizeLaws.{sound-low}
+use Rattle.assemble.proofs.BuildLaws.{front-fits, back-fits, header-long, trailer-long, header-filled, trailer-filled, sound-long, no-room, built}
 use borrow.Author.Needs.{needs}
 use Rattle.assemble.proofs.build.lay_out.Statement.{statement}
 use Rattle.assemble.proofs.build.lay_out.Tie as tie
@@ -13,40 +13,38 @@ add-base c =
 
 returns : tie.Need-returns
 returns c =
-    let m = c .before .before .measure in
-    short-header _ (m .ensures .orders) _ _ (header-long _ (c .before .before .before .before .before .before .before .before .before .before .before .before .pre) (m .result) (m .ensures)) (c .if1 .taken)
-
-returns-2 : tie.Need-returns-2
-returns-2 c =
-    let m = c .before .before .before .measure in
-    let ok = c .before .before .before .before .before .before .before .before .before .before .before .before .before .pre in
-    short-trailer _ (m .ensures .orders) _ _ (header-long _ ok (m .result) (m .ensures)) (trailer-long _ ok (m .result) (m .ensures)) (c .before .if1 .left) (c .if2 .taken)
+    let room = c .before .before .before in
+    let m = room .before .before .measure in
+    let ok = room .before .before .before .before .before .before .before .before .before .before .before .before .pre in
+    no-room _ (m .ensures .orders) _ _ (header-long _ ok (m .result) (m .ensures)) (trailer-long _ ok (m .result) (m .ensures)) (room .room-faults .ensures) (c .before .v .given .1)
 
 add-fill : tie.Need-add-fill
 add-fill c =
-    let m = c .before .before .before .measure in
-    let ok = c .before .before .before .before .before .before .before .before .before .before .before .before .before .pre in
-    omega (arith, front-fits _ ok (m .result) (m .ensures), sound-low _ ok (m .ensures .orders), c .before .before .sound-size .ensures)
+    let sound = c .before .before .before in
+    let m = sound .before .measure in
+    let ok = sound .before .before .before .before .before .before .before .before .before .before .before .pre in
+    omega (arith, front-fits _ ok (m .result) (m .ensures), sound-low _ ok (m .ensures .orders), sound .sound-size .ensures)
 
 add-fill-2 : tie.Need-add-fill-2
 add-fill-2 c =
-    let m = c .before .before .before .measure in
-    let ok = c .before .before .before .before .before .before .before .before .before .before .before .before .before .pre in
-    omega
-    (arith, front-fits _ ok (m .result) (m .ensures), back-fits _ ok (m .result) (m .ensures), sound-low _ ok (m .ensures .orders), c .before .before .sound-size .ensures)
+    let sound = c .before .before .before in
+    let m = sound .before .measure in
+    let ok = sound .before .before .before .before .before .before .before .before .before .before .before .pre in
+    omega (arith, front-fits _ ok (m .result) (m .ensures), back-fits _ ok (m .result) (m .ensures), sound-low _ ok (m .ensures .orders), sound .sound-size .ensures)
 
-returns-3 : tie.Need-returns-3
-returns-3 c =
+returns-2 : tie.Need-returns-2
+returns-2 c =
     let filled = c .before .before .before .before in
-    let room = filled .before .before .before in
-    let sound = room .before .before in
+    let told = filled .before .before .before in
+    let room = told .before .before in
+    let sound = room .before in
     let m = sound .before .measure in
     let ok = sound .before .before .before .before .before .before .before .before .before .before .before .pre in
     let long = sound-long _ ok (m .ensures .orders) (sound .sound-size .ensures) in
-    built _ (m .ensures .orders) _ _ (header-long _ ok (m .result) (m .ensures)) (trailer-long _ ok (m .result) (m .ensures)) (room .before .if1 .left) (room .if2 .left) long
+    built _ (m .ensures .orders) _ _ (header-long _ ok (m .result) (m .ensures)) (trailer-long _ ok (m .result) (m .ensures)) (room .room-faults .ensures) (told .enum-told .given .1) long
     (header-filled _ ok (m .result) (m .ensures) long (filled .fill .ensures)) (trailer-filled _ ok (m .result) (m .ensures) (filled .fill .ensures))
 
 pub lay-out-spec : {M : Type 1} → statement M
 lay-out-spec =
     tie.close
-    (tie.spec (λ c κs. search needs) (λ c κs. search needs) add-base returns returns-2 add-fill add-fill-2 (λ c κs. search needs) (λ c. search needs) (λ c. search needs) returns-3)
+    (tie.spec (λ c κs. search needs) (λ c κs. search needs) add-base (λ c κs. search needs) (λ c. search needs) returns (λ c. search needs) add-fill add-fill-2 (λ c κs. search needs) (λ c. search needs) (λ c. search needs) returns-2)

@@ -1,5 +1,5 @@
 -- `verdict::chunk_faults` meets its contract. Assumes nothing.
-use Rattle.checks.specs.Inputs.{chunkFaults}
+use Rattle.checks.specs.InputVerdict.{chunkFaults}
 use Rattle.checks.proofs.verdict.chunk_faults.Statement.{statement}
 use Rattle.checks.proofs.verdict.chunk_faults.Tie as tie
 

@@ -1,5 +1,5 @@
 -- `verdict::given_faults` meets its contract. Assumes nothing.
-use Rattle.checks.specs.Inputs.{givenFaults}
+use Rattle.checks.specs.InputVerdict.{givenFaults}
 use Rattle.checks.proofs.verdict.given_faults.Statement.{statement}
 use Rattle.checks.proofs.verdict.given_faults.Tie as tie
 

@@ -1,6 +1,6 @@
 -- `verdict::verdict` meets its contract. Assumes nothing.
 use mathlib.Core.Path.{_∙_}
-use Rattle.checks.specs.Inputs.{verdict}
+use Rattle.checks.specs.InputVerdict.{verdict}
 use Rattle.checks.proofs.verdict.verdict.Statement.{statement}
 use Rattle.checks.proofs.verdict.verdict.Tie as tie
 

@@ -3,7 +3,7 @@ use native.Mathlib.Omega.{arith}
 use borrow.Author.Needs.{needs}
 use denote.Ref.{now}
 use Rattle.chunk.specs.Chunk.{counts}
-use Rattle.chunk.proofs.AppendLaws.{none, measured}
+use Rattle.cursor.proofs.AppendLaws.{none, measured}
 use Rattle.chunk.proofs.ChunkLaws.{chunked}
 use Rattle.diin_texts.specs.DiinText.{givenText, diinTextData}
 use Rattle.texts.specs.Extent.{part}

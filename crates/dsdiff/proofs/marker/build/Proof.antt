@@ -64,16 +64,16 @@ use Rattle.build_options.proofs.area.Area as Ar
 use Rattle.build_options.proofs.area.Area.Laws as Ar′
 use Rattle.build_options.proofs.options.Options as Op
 use Rattle.build_options.proofs.options.Options.Laws as Op′
-use Rattle.assemble.specs.declared.build.Answer.{Answer}
+use Rattle.build_answer.specs.declared.answer.Answer.{Answer}
 use Rattle.dsdiff.specs.declared.marker.Marker.{Marker}
-use Rattle.checks.specs.Inputs.{inputsOf}
+use Rattle.build_options.specs.Inputs.{inputsOf}
 use Rattle.assemble.specs.Build.{Builds}
 use Rattle.dsdiff.specs.Marker.{lookedAt}
 use Rattle.dsdiff.specs.Table.{noRows, filled}
 use Rattle.dsdiff.proofs.Zeros.{zeros, made, made-typed, rep-made, made-in}
 use Rattle.dsdiff.proofs.marker.Marker as T
-use Rattle.assemble.proofs.build.Answer as S
-use Rattle.assemble.proofs.build.Answer.Laws as S′
+use Rattle.build_answer.proofs.answer.Answer as S
+use Rattle.build_answer.proofs.answer.Answer.Laws as S′
 use Rattle.dsdiff.proofs.marker.unpack as unpack
 use Rattle.dsdiff.proofs.marker.unpack.Symbol as unpack-def
 use Rattle.dsdiff.proofs.marker.unpack.Symbol.{name as #dsdiff·marker·unpack}

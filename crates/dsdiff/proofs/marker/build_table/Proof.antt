@@ -7,7 +7,7 @@ use native.Mathlib.Omega.{arith}
 use borrow.Author.Needs.{needs}
 use lib.Dec.{lit≤}
 use lib.ListN.{take}
-use Rattle.checks.specs.Inputs.{Inputs, inputsOf}
+use Rattle.build_options.specs.Inputs.{Inputs, inputsOf}
 use Rattle.dsdiff.specs.Marker.{lookedAt}
 use Rattle.assemble.proofs.BuildLaws.{refused}
 use Rattle.dsdiff.proofs.TableLaws.{looked, looked-none, by-rows, many-refused}

@@ -7,9 +7,9 @@ use Prim.Native.Nat.{_≤_, _<_, _-_, min}
 use native.Mathlib.Omega.{arith}
 use borrow.Author.Needs.{needs}
 use lib.ListN.{length, take}
-use Rattle.chunk.specs.Append.{Appended}
+use Rattle.cursor.specs.Append.{Appended}
 use Rattle.chunk_names.specs.declared.LocalChunk.the-variants.{Property}
-use Rattle.chunk.proofs.AppendLaws.{none}
+use Rattle.cursor.proofs.AppendLaws.{none}
 use Rattle.file_tree.specs.Parts.{partsOf}
 use Rattle.file_tree.specs.Sides.{hasSound, side, localsBytes}
 use Rattle.file_tree.proofs.SideLaws.{passed-next}

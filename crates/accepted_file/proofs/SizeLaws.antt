@@ -1,0 +1,212 @@
+-- An accepted build's header, sound and trailer are far below what a size can tell, and the sound is named once. Assumes nothing.
+use mathlib.Core.Path.{_≡_, refl, ap, sym, _∙_}
+use mathlib.Core.Bool.{Bool, true, false, cond, _&&_}
+use mathlib.Core.List.{List, [], _∷_, _++_, map, flatMap}
+use Prim.Native.Nat.{ℕ, zero, suc, _+_, _-_, _*_, _/_, _^_, _≤_, _<_, min}
+use native.Mathlib.Nat.{mul-le-mul}
+use native.Mathlib.Numerals.{add-one}
+use native.Mathlib.Omega.{arith}
+use borrow.Author.Tests.{eqb-false}
+use lib.Dec.{lit<}
+use lib.ListN.{length, getD, take, drop, length-append, length-take}
+use Rattle.cursor.specs.Number.{be}
+use Rattle.chunk_names.specs.Name.{ascii}
+use Rattle.chunk.specs.Chunk.{chunk, occupied}
+use Rattle.chunk.specs.Rows.{rows}
+use Rattle.tree.specs.Tree.{stop, leaf, node, bytes, each}
+use Rattle.chunk_names.specs.declared.LocalChunk.{LocalChunk}
+use Rattle.chunk_names.specs.declared.LocalChunk.the-variants.{Property, SoundData, DstIndex, EditedMasterInfo, Comments}
+use Rattle.cursor.proofs.NumberLaws.{length-be}
+use Rattle.chunk.proofs.ChunkLaws.{length-chunk}
+use Rattle.chunk.proofs.ListLaws.{flatMap-bound}
+use Rattle.tree.proofs.TreeLaws.{bytes-stop, bytes-leaf, bytes-node}
+use Rattle.texts.specs.Extent.{part}
+use Rattle.texts.specs.declared.extent.Extent.{Extent}
+use Rattle.comt.specs.Comment.{Written, writtenComments, comtData, hasComt, comt}
+use Rattle.texts.proofs.ExtentLaws.{length-part}
+use Rattle.comt.proofs.CommentLaws.{Fits, comments-fit, length-comtData, comtData-short}
+use Rattle.dst.specs.Frame.{frameBytes}
+use Rattle.dst.specs.Unit.{unitSize, sizes}
+use Rattle.dst.specs.Start.{sum}
+use Rattle.dst.specs.Head.{head}
+use Rattle.dst_index.specs.Index.{dsti}
+use Rattle.dst_index.proofs.IndexLaws.{length-dsti, length-head}
+use Rattle.prop.specs.Property.{propertyChunks, property}
+use Rattle.prop_fields.specs.declared.compression.Sound.{Sound}
+use Rattle.prop_fields.specs.declared.compression.Sound.the-variants.{Dsd, Dst}
+use Rattle.prop.proofs.PropertyLaws.{property-short}
+use Rattle.master_info.specs.Diin.{infoChunks, hasDiin, diin}
+use Rattle.refusal.specs.Orders.{localRank, times}
+use Rattle.refusal.specs.declared.verdict.Verdict.the-variants.{Accepted}
+use Rattle.build_options.specs.Area.{positions, isDst}
+use Rattle.area_rules.specs.Area.{lengthsWanted}
+use Rattle.build_options.specs.Inputs.{Inputs}
+use Rattle.checks.specs.InputVerdict.{verdict}
+use Rattle.build_options.specs.declared.area.Area.{Area}
+use Rattle.checks.proofs.AcceptedLaws as accepted
+use Rattle.checks.proofs.DiinBelowLaws.{diin-low}
+use Rattle.file_tree.specs.Parts.{parts, properties, info, hasIndex, firstOffset}
+use Rattle.file_tree.specs.Sound.{soundSize, soundHead}
+use Rattle.caller_chunks.specs.Caller.{callerChunk, callerChunks}
+use Rattle.file_tree.specs.Sides.{isSound, before, behind, localBytes, localsBytes, version, front, back}
+use Rattle.file_tree.specs.File.{given, frontOf, backOf, soundLength, Ordered}
+use Rattle.caller_chunks.proofs.CallerLaws.{firstChunks, callers-next, callers-all}
+
+-- chunks that may be left out
+chunk-low : (b : Bool) (name content : List ℕ) (n : ℕ) → length name ≡ 4 → length content ≤ n → length (cond b (chunk name content) []) ≤ 13 + n
+unfolding occupied
+chunk-low true name content n four h = omega (arith, length-chunk name content four, h)
+chunk-low false name content n four h = omega arith
+
+-- the units of frames of at most 65,536 bytes
+unit-low : (crc : Bool) (l : ℕ) → l ≤ 65_536 → unitSize crc l ≤ 65_565
+unfolding unitSize occupied
+unit-low true l h = omega arith
+unit-low false l h = omega arith
+
+sum-low : (crc : Bool) (ls : List ℕ) → ((k : ℕ) → k < length ls → getD ls k 0 ≤ 65_536) → sum (sizes crc ls) ≤ 65_565 * length ls
+unfolding sum
+sum-low crc [] h = omega arith
+sum-low crc (l ∷ ls) h = omega (arith, unit-low crc l (h 0 (omega arith)), sum-low crc ls (λ k i. h (suc k) (omega arith)))
+
+-- names on one side are no more than all
+before-few : (cs : List LocalChunk) → length (before cs) ≤ length cs
+unfolding before
+before-few [] = omega arith
+before-few (c ∷ cs) = go (isSound c) (before-few cs)
+  where
+    go : (t : Bool) → length (before cs) ≤ length cs → length (cond t [] (c ∷ before cs)) ≤ suc (length cs)
+    go true h = omega arith
+    go false h = omega arith
+
+behind-few : (cs : List LocalChunk) → length (behind cs) ≤ length cs
+unfolding behind
+behind-few [] = omega arith
+behind-few (c ∷ cs) = go (isSound c) (behind-few cs)
+  where
+    go : (t : Bool) → length (behind cs) ≤ length cs → length (cond t cs (behind cs)) ≤ suc (length cs)
+    go true h = omega arith
+    go false h = omega arith
+
+rank-take : (n : ℕ) (cs : List LocalChunk) → map localRank (take n cs) ≡ take n (map localRank cs)
+rank-take zero cs = refl
+rank-take (suc n) [] = refl
+rank-take (suc n) (c ∷ cs) = ap (λ (l : List ℕ). localRank c ∷ l) (rank-take n cs)
+
+one-of : (n : ℕ) → n ≤ 1 → (n ≡ 0 → ⊥) → n ≡ 1
+one-of n most some = omega arith
+
+module _ (x : Inputs) (ok : verdict x ≡ Accepted) (sized : Ordered x) where
+  pub positions-few : positions (x .area) ≤ 1_151_999
+  positions-few = omega (arith, accepted.range-inside x ok .1, accepted.playtime-bound x ok)
+
+  pub lengths-few : length (x .lengths) ≤ 1_151_999
+  lengths-few = rw (accepted.lengths-number x ok) (go (isDst (x .area .sound)))
+    where
+      go : (b : Bool) → cond b (positions (x .area)) 0 ≤ 1_151_999
+      go true = positions-few
+      go false = omega arith
+
+  -- the sound is named once
+  pub sound-once : times (map localRank (given x)) 1 ≡ 1
+  sound-once =
+      rw (rank-take (min (x .localCount) 5) (x .localOrder))
+      (one-of _ (accepted.local-once x ok 1 (omega arith)) (eqb-false _ 0 (accepted.sound-named x ok)))
+
+  pub sound-low : soundLength x < 2 ^ 40
+  unfolding soundSize frameBytes
+  sound-low = go (x .area .sound)
+    where
+      go : (s : Sound) → soundSize s (x .area) (x .options .«dst_crc») (x .lengths) < 2 ^ 40
+      go Dsd =
+          let frame : 4704 * x .area .channels ≤ 28_224 = omega (arith, accepted.channels-bound x ok .1) in
+          let most = mul-le-mul positions-few frame in
+          omega (arith, most)
+      go Dst = omega (arith, sum-low (x .options .«dst_crc») (x .lengths) (λ k h. accepted.lengths-bound x ok k h .1), lengths-few)
+
+  comments-low : length (comt (x .pool) (x .comments) (info (parts x) .text)) ≤ 2 ^ 50
+  unfolding comt
+  comments-low = go (hasComt cs) refl
+    where
+      cs : List Written
+      cs = writtenComments (x .pool) (x .comments) (info (parts x) .text)
+
+      fits : Fits cs
+      fits = comments-fit (x .pool) (info (parts x) .text) (x .comments) (λ k h. omega (arith, accepted.comments-fit x ok .short k h))
+
+      go : (b : Bool) → hasComt cs ≡ b → length (cond b (chunk (ascii "COMT") (comtData cs)) []) ≤ 2 ^ 50
+      go true e =
+          let size = length-comtData 0 cs in
+          omega (arith, chunk-low true (ascii "COMT") (comtData cs) (2 ^ 49) refl (omega (arith, size, comtData-short cs fits e 0)))
+      go false e = omega arith
+
+  diin-short : length (bytes (diin (x .pool) (x .raw) (x .tracks) (x .markers) (info (parts x)) (x .infoOrder))) ≤ 2 ^ 50
+  unfolding diin
+  diin-short = go (hasDiin (x .pool) (x .raw) (x .tracks) (x .markers) (info (parts x)) (x .infoOrder))
+    where
+      go : (b : Bool) → length (bytes (cond b (node (ascii "DIIN") [] (infoChunks (x .pool) (x .raw) (x .tracks) (x .markers) (info (parts x)) (x .infoOrder)) stop) stop)) ≤ 2 ^ 50
+      go true =
+          rw bytes-node
+          (omega (
+            arith,
+            chunk-low true (ascii "DIIN") (bytes (infoChunks (x .pool) (x .raw) (x .tracks) (x .markers) (info (parts x)) (x .infoOrder))) (2 ^ 35) refl
+                (diin-low x ok (omega (arith, sized .info))),
+          ))
+      go false = rw bytes-stop (omega arith)
+
+  module _ (base : ℕ) where
+    local-low : (c : LocalChunk) → length (localBytes (parts x) base c) ≤ 2 ^ 50
+    unfolding localBytes property
+    local-low Property =
+        rw bytes-node
+        (omega (
+          arith,
+          chunk-low true (ascii "PROP") (ascii "SND " ++ bytes (propertyChunks (x .propertyOrder) (properties (parts x)))) 194 refl
+              (property-short (properties (parts x)) (x .propertyOrder) (sized .property)),
+        ))
+    local-low SoundData = omega arith
+    local-low DstIndex = go (hasIndex (parts x))
+      where
+        go : (b : Bool) → length (cond b (dsti (x .options .«dst_crc») (firstOffset (parts x) base) (x .lengths)) []) ≤ 2 ^ 50
+        go true = rw (length-dsti) (omega (arith, lengths-few))
+        go false = omega arith
+    local-low EditedMasterInfo = diin-short
+    local-low Comments = comments-low
+
+    locals-low : (cs : List LocalChunk) → length cs ≤ 5 → length (localsBytes (parts x) base cs) ≤ 2 ^ 53
+    locals-low cs few = omega (arith, flatMap-bound (localBytes (parts x) base) (2 ^ 50) local-low cs, few)
+
+    given-few : length (given x) ≤ 5
+    given-few = rw (length-take (min (x .localCount) 5) (x .localOrder)) (omega arith)
+
+    head-low : (s : Sound) → length (soundHead s (x .area) (x .options .«dst_crc») (x .lengths)) ≤ 30
+    unfolding soundHead
+    head-low Dsd = rw (length-append, length-be) (omega arith)
+    head-low Dst = rw length-head (omega arith)
+
+    pub front-low : length (frontOf x base) < 2 ^ 54
+    unfolding front occupied
+    front-low =
+        rw (length-append, length-append, length-append, length-chunk (ascii "FVER") version refl, length-be)
+        (omega (arith, locals-low (before (given x)) (omega (arith, before-few (given x), given-few)), head-low (x .area .sound)))
+
+    caller-low : (row : List ℕ) → getD row 2 0 ≤ 16_777_216 → length (bytes (callerChunk (x .raw) row)) ≤ 16_777_229
+    unfolding callerChunk
+    caller-low row h =
+        let e : Extent = record { start = getD row 1 0; length = getD row 2 0 } in
+        rw bytes-leaf (chunk-low true (be 4 (getD row 0 0)) (part (x .raw) e) 16_777_216 (length-be 4 (getD row 0 0)) (omega (arith, length-part (x .raw) e)))
+
+    callers-some : (i : ℕ) → i ≤ length (x .callers) / 3 → length (firstChunks (x .raw) (x .callers) i) ≤ 16_777_229 * i
+    unfolding each
+    callers-some zero h = rw bytes-stop (omega arith)
+    callers-some (suc i) h =
+        let more : i < length (x .callers) / 3 = omega arith in
+        rw (← add-one i, callers-next (x .raw) (x .callers) i more, length-append)
+        (omega (arith, callers-some i (omega arith), caller-low (take 3 (drop (i * 3) (x .callers))) (accepted.callers-fit x ok .short i more)))
+
+    pub back-low : length (backOf x base) < 2 ^ 54
+    unfolding back
+    back-low =
+        let n = length (x .callers) / 3 in
+        rw (length-append, ← callers-all (x .raw) (x .callers) n (omega arith))
+        (omega (arith, locals-low (behind (given x)) (omega (arith, behind-few (given x), given-few)), callers-some n (omega arith), accepted.callers-fit x ok .few))
