@@ -1,1 +1,1 @@
-pub mod StarredFigures
+pub mod Starred

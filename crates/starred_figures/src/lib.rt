@@ -1,1 +1,1 @@
-// The starred figures of document 01, worked out by the definitions: laws (proofs/), and no function.
+// The starred figures of document 01: the table (specs/), that the definitions give it (proofs/), and no function.

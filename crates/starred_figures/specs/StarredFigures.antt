@@ -1,63 +1,35 @@
--- THE STARRED FIGURES of document 01, as one table, worked out by the definitions. Assumes nothing.
-use mathlib.Core.Path.{_≡_, refl}
+-- THE STARRED FIGURES of document 01, as one table over the definitions. Assumes nothing.
+use mathlib.Core.Path.{_≡_}
 use mathlib.Core.Bool.{Bool, true, false}
-use mathlib.Core.List.{List, [], _∷_, _++_, flatMap}
+use mathlib.Core.List.{List, [], _∷_, _++_}
 use Prim.Native.Nat.{ℕ, _+_, _*_}
 use lib.ListN.{length, take, drop, set}
-use Rattle.cursor.specs.Number.{be, num}
+use Rattle.cursor.specs.Number.{num}
 use Rattle.chunk_names.specs.Name.{ascii, propertyOrder, infoOrder, localOrder}
-use Rattle.chunk.specs.Chunk.{pad, chunk, counts, occupied}
-use Rattle.chunk.specs.Rows.{firstRows, rows}
 use Rattle.frame_time.specs.Time.{timeOf}
-use Rattle.tree.specs.Tree.{bytes, join, each}
+use Rattle.tree.specs.Tree.{bytes}
 use Rattle.chunk_names.specs.declared.PropertyChunk.the-variants.{CompressionType}
-use Rattle.checksum.specs.Crc.{bit, bits, byteOf, bytesOf, crcOf}
-use Rattle.texts.specs.Extent.{part}
-use Rattle.texts.specs.Text.{printable}
-use Rattle.comt.specs.Comment.{writtenComments, hasComt, comt}
-use Rattle.dst.specs.Frame.{frameBytes}
-use Rattle.dst.specs.Unit.{unitSize, sizes}
-use Rattle.dst.specs.Start.{sum}
-use Rattle.dst.specs.Head.{rate, frte, dataSize, head}
-use Rattle.dst_index.specs.Index.{entry, index, dsti}
+use Rattle.checksum.specs.Crc.{crcOf}
+use Rattle.dst.specs.Unit.{sizes}
+use Rattle.dst.specs.Head.{dataSize}
 use Rattle.dst_index.specs.declared.index.DstIndexOffset.{DstIndexOffset}
 use Rattle.dst_index.specs.declared.index.DstIndexOffset.the-variants.{ChunkHeader, FrameData}
-use Rattle.prop_fields.specs.Layout.{channelCount, sixNames, channelNames, speakerCode}
-use Rattle.prop_fields.specs.Start.{isGiven, startFrame}
-use Rattle.prop_fields.specs.Compression.{compressionData, cmprData}
-use Rattle.prop.specs.Property.{chnlData, idOf, contentOf, isWritten, propertyChunk, propertyChunks, property}
+use Rattle.prop.specs.Property.{contentOf, propertyChunks}
 use Rattle.prop_fields.specs.declared.compression.Sound.{Sound}
 use Rattle.prop_fields.specs.declared.compression.Sound.the-variants.{Dsd, Dst}
 use Rattle.prop_fields.specs.declared.layout.Layout.the-variants.{Stereo}
 use Rattle.prop_fields.specs.declared.start.Start.{Start}
 use Rattle.prop_fields.specs.declared.start.Start.the-variants.{Absent, Given}
-use Rattle.master_info.specs.Diin.{hasDiin, diin}
-use Rattle.refusal.specs.Below.{below}
-use Rattle.refusal.specs.Orders.{times, eachOnce}
 use Rattle.refusal.specs.declared.verdict.Verdict.the-variants.{Accepted, Refused}
-use Rattle.rows.specs.Lengths.{lengthsWrong}
-use Rattle.row_extents.specs.Extents.{tooLarge, outsidePool}
-use Rattle.rows.specs.Scalars.{hasNoScalar, noScalars}
-use Rattle.faults.specs.Caller.{callerFaults}
-use Rattle.comment_faults.specs.Comments.{commentFaults}
 use Rattle.build_options.specs.declared.options.Options.{Options}
-use Rattle.build_options.specs.Options.{defaults, effective}
-use Rattle.rules.specs.Limits.{anyTooLarge, anyOutside, anyNoScalar, limitFaults}
-use Rattle.area_rules.specs.Area.{areaFault, lengthsFault, rangeFault, areaFaults}
-use Rattle.area_rules.specs.Master.{sourceFault, editedMasterFault, trackFaults}
-use Rattle.rules.specs.Property.{numbersFault, startFault, propertyFaults}
-use Rattle.rules.specs.Info.{infoFaults}
-use Rattle.local_rules.specs.Local.{lacksAny, localFaults}
+use Rattle.build_options.specs.Options.{defaults}
 use Rattle.build_options.specs.Inputs.{Inputs}
-use Rattle.checks.specs.InputVerdict.{givenFaults, chunkFaults, verdict}
+use Rattle.checks.specs.InputVerdict.{verdict}
 use Rattle.file_tree.specs.Parts.{parts, properties, indexOf}
-use Rattle.file_tree.specs.Sound.{soundSize, soundHead}
-use Rattle.caller_chunks.specs.Caller.{callerChunks}
-use Rattle.file_tree.specs.Sides.{before, behind, localBytes, front, back}
 use Rattle.file_tree.specs.File.{place, soundLength, formSize, headerOf, trailerOf}
 
 -- a stereo build of so many positions, with these lengths and options; nothing else is given
-abbrev build : Sound → ℕ → List ℕ → Options → Inputs
+abbrev pub build : Sound → ℕ → List ℕ → Options → Inputs
 build sound positions lengths options = record {
   area = record { sound = sound; playtime = positions; channels = 2; layout = Stereo; first = 0; end = positions };
   options = options;
@@ -75,7 +47,7 @@ build sound positions lengths options = record {
 }
 
 -- the defaults, but for D1, the start, what the index's offsets lead to, and the CRC
-abbrev with : Bool → Start → DstIndexOffset → Bool → Options
+abbrev pub with : Bool → Start → DstIndexOffset → Bool → Options
 with d1 start offset crc = record {
   «channel_numbers» = defaults .«channel_numbers»;
   «unspecified_loudspeaker_configuration» = defaults .«unspecified_loudspeaker_configuration»;
@@ -105,39 +77,39 @@ with d1 start offset crc = record {
 }
 
 -- one position of DSD: the defaults; D1; a start
-abbrev dsd : Inputs
+abbrev pub dsd : Inputs
 dsd = build Dsd 1 [] defaults
 
-abbrev dsd-d1 : Inputs
+abbrev pub dsd-d1 : Inputs
 dsd-d1 = build Dsd 1 [] (with true Absent ChunkHeader false)
 
-abbrev dsd-from : ℕ → Inputs
+abbrev pub dsd-from : ℕ → Inputs
 dsd-from frame = build Dsd 1 [] (with false (Given frame) ChunkHeader false)
 
 -- two frames of DST, of 3 and 4 bytes: the defaults; `FrameData`; CRC
-abbrev dst : Inputs
+abbrev pub dst : Inputs
 dst = build Dst 2 (3 ∷ 4 ∷ []) defaults
 
-abbrev dst-data : Inputs
+abbrev pub dst-data : Inputs
 dst-data = build Dst 2 (3 ∷ 4 ∷ []) (with false Absent FrameData false)
 
-abbrev dst-crc : Inputs
+abbrev pub dst-crc : Inputs
 dst-crc = build Dst 2 (3 ∷ 4 ∷ []) (with false Absent ChunkHeader true)
 
 -- the data sizes of PROP, CMPR and DST, the length of the file, the offset in entry i
-abbrev propSize : Inputs → ℕ
+abbrev pub propSize : Inputs → ℕ
 propSize x = length (ascii "SND " ++ bytes (propertyChunks (x .propertyOrder) (properties (parts x))))
 
-abbrev cmprSize : Inputs → ℕ
+abbrev pub cmprSize : Inputs → ℕ
 cmprSize x = length (contentOf (properties (parts x)) CompressionType)
 
-abbrev dstSize : Inputs → ℕ
+abbrev pub dstSize : Inputs → ℕ
 dstSize x = dataSize (sizes (x .options .«dst_crc») (x .lengths))
 
-abbrev fileSize : Inputs → ℕ
+abbrev pub fileSize : Inputs → ℕ
 fileSize x = length (headerOf x) + soundLength x + length (trailerOf x)
 
-abbrev offsetAt : Inputs → ℕ → ℕ
+abbrev pub offsetAt : Inputs → ℕ → ℕ
 offsetAt x i = num (take 8 (drop (12 * i) (indexOf (parts x) (place x))))
 
 pub record StarredFigures : Type 0 where
@@ -168,29 +140,3 @@ pub record StarredFigures : Type 0 where
   -- "CRC of byte 1 is 0x80000011; of nothing, 0"
   pub crc-one : crcOf (1 ∷ []) ≡ 0x8000_0011
   pub crc-none : crcOf [] ≡ 0
-
-pub starred : StarredFigures
-unfolding flatMap be num pad chunk counts occupied firstRows rows timeOf bytes join each bit bits byteOf bytesOf crcOf part printable writtenComments hasComt comt frameBytes unitSize sum rate frte dataSize head entry index dsti channelCount sixNames channelNames speakerCode isGiven startFrame compressionData cmprData chnlData idOf contentOf isWritten propertyChunk property hasDiin diin below times eachOnce lengthsWrong tooLarge outsidePool hasNoScalar noScalars callerFaults commentFaults defaults effective anyTooLarge anyOutside anyNoScalar limitFaults areaFault lengthsFault rangeFault areaFaults sourceFault editedMasterFault trackFaults numbersFault startFault propertyFaults infoFaults lacksAny localFaults givenFaults chunkFaults verdict soundSize soundHead callerChunks before behind localBytes front back place headerOf trailerOf
-starred = record {
-  dsd-prop = refl;
-  dsd-header = refl;
-  dsd-form = refl;
-  dsd-file = refl;
-  cmpr-19 = refl;
-  cmpr-20 = refl;
-  d1-form = refl;
-  d1-only = refl;
-  dst-header = refl;
-  dst-size = refl;
-  dst-form = refl;
-  dst-file = refl;
-  entries = refl;
-  entries-data = refl;
-  entries-crc = refl;
-  crc-file = refl;
-  last-time = refl;
-  start-passes = refl;
-  start-is-29 = refl;
-  crc-one = refl;
-  crc-none = refl;
-}
