@@ -1,5 +1,4 @@
 // PROP. What is written into `out` is what fits of it; the answer is the length of all of it.
-ghost use mathlib.Core.Path.{_≡_};
 ghost use Rattle.cursor.specs.Append.{Appended};
 ghost use Rattle.tree.specs.Tree.{bytes};
 ghost use Rattle.prop.specs.Property.{property};

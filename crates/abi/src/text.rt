@@ -1,5 +1,4 @@
 // Texts. A text is `length` values of `pool` from `start` on. What is written into `out` is what fits of it; the answer is the length of all of it.
-ghost use mathlib.Core.Path.{_≡_};
 ghost use Rattle.cursor.specs.Append.{Appended};
 ghost use Rattle.texts.specs.Extent.{part};
 ghost use Rattle.texts.specs.Text.{textBytes};

@@ -1,19 +1,17 @@
 -- An accepted build's header, sound and trailer are far below what a size can tell, and the sound is named once. Assumes nothing.
-use mathlib.Core.Path.{_≡_, refl, ap, sym, _∙_}
-use mathlib.Core.Bool.{Bool, true, false, cond, _&&_}
+use mathlib.Core.Path.{_≡_, refl, ap}
+use mathlib.Core.Bool.{Bool, true, false, cond}
 use mathlib.Core.List.{List, [], _∷_, _++_, map, flatMap}
 use Prim.Native.Nat.{ℕ, zero, suc, _+_, _-_, _*_, _/_, _^_, _≤_, _<_, min}
 use native.Mathlib.Nat.{mul-le-mul}
 use native.Mathlib.Numerals.{add-one}
 use native.Mathlib.Omega.{arith}
 use borrow.Author.Tests.{eqb-false}
-use lib.Dec.{lit<}
 use lib.ListN.{length, getD, take, drop, length-append, length-take}
 use Rattle.cursor.specs.Number.{be}
 use Rattle.chunk_names.specs.Name.{ascii}
 use Rattle.chunk.specs.Chunk.{chunk, occupied}
-use Rattle.chunk.specs.Rows.{rows}
-use Rattle.tree.specs.Tree.{stop, leaf, node, bytes, each}
+use Rattle.tree.specs.Tree.{stop, node, bytes, each}
 use Rattle.chunk_names.specs.declared.LocalChunk.{LocalChunk}
 use Rattle.chunk_names.specs.declared.LocalChunk.the-variants.{Property, SoundData, DstIndex, EditedMasterInfo, Comments}
 use Rattle.cursor.proofs.NumberLaws.{length-be}
@@ -39,15 +37,13 @@ use Rattle.master_info.specs.Diin.{infoChunks, hasDiin, diin}
 use Rattle.refusal.specs.Orders.{localRank, times}
 use Rattle.refusal.specs.declared.verdict.Verdict.the-variants.{Accepted}
 use Rattle.build_options.specs.Area.{positions, isDst}
-use Rattle.area_rules.specs.Area.{lengthsWanted}
 use Rattle.build_options.specs.Inputs.{Inputs}
 use Rattle.checks.specs.InputVerdict.{verdict}
-use Rattle.build_options.specs.declared.area.Area.{Area}
 use Rattle.checks.proofs.AcceptedLaws as accepted
 use Rattle.checks.proofs.DiinBelowLaws.{diin-low}
 use Rattle.file_tree.specs.Parts.{parts, properties, info, hasIndex, firstOffset}
 use Rattle.file_tree.specs.Sound.{soundSize, soundHead}
-use Rattle.caller_chunks.specs.Caller.{callerChunk, callerChunks}
+use Rattle.caller_chunks.specs.Caller.{callerChunk}
 use Rattle.file_tree.specs.Sides.{isSound, before, behind, localBytes, localsBytes, version, front, back}
 use Rattle.file_tree.specs.File.{given, frontOf, backOf, soundLength, Ordered}
 use Rattle.caller_chunks.proofs.CallerLaws.{firstChunks, callers-next, callers-all}

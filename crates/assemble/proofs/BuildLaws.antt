@@ -8,8 +8,6 @@ use borrow.Author.Tests.{ltb-false}
 use lib.Dec.{ltb}
 use lib.ListN.{length, drop}
 use Rattle.cursor.specs.Append.{overlay}
-use Rattle.cursor.specs.Number.{be}
-use Rattle.chunk_names.specs.Name.{ascii}
 use Rattle.cursor.proofs.AppendLaws.{overlay-room}
 use Rattle.refusal.specs.declared.verdict.Verdict.{Verdict}
 use Rattle.refusal.specs.declared.verdict.Verdict.the-variants.{Accepted, Refused}

@@ -6,7 +6,6 @@ use Rattle.chunk_names.specs.Name.{propertyOrder, infoOrder, localOrder}
 use Rattle.prop_fields.specs.declared.compression.Sound.{Sound}
 use Rattle.prop_fields.specs.declared.compression.Sound.the-variants.{Dsd, Dst}
 use Rattle.prop_fields.specs.declared.layout.Layout.the-variants.{Stereo, Unspecified}
-use Rattle.prop_fields.specs.declared.start.Start.{Start}
 use Rattle.prop_fields.specs.declared.start.Start.the-variants.{Given}
 use Rattle.prop_fields.specs.Layout.{channelCount}
 use Rattle.prop_fields.specs.Start.{isGiven, startFrame}

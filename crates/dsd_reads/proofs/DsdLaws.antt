@@ -13,7 +13,7 @@ use lib.Seq.{length-take-le, take-at, drop-at}
 use Rattle.chunk.specs.Rows.{firstRows}
 use Rattle.sound_reads.specs.declared.place.Place.{Place}
 use Rattle.sound_reads.specs.declared.place.Positions.{Positions}
-use Rattle.dst.specs.Frame.{frameBytes, dsdSound}
+use Rattle.dst.specs.Frame.{dsdSound}
 use Rattle.dst.specs.Start.{sum, start}
 use Rattle.sound_reads.specs.Place.{placeOf, Inside}
 use Rattle.window.specs.declared.window.Window.{Window}

@@ -1,5 +1,4 @@
 // The DST chunk up to its first frame.
-ghost use mathlib.Core.Path.{_≡_};
 ghost use Rattle.cursor.specs.Append.{Appended};
 ghost use Rattle.dst.specs.Head.{frte, head};
 use crate::unit::data_size;

@@ -1,6 +1,5 @@
 // A frame's unit: its DSTF chunk and, with CRC on, its DSTC chunk. Sums of sizes stop at the largest u64, which says that they do not fit.
 ghost use mathlib.Core.Path.{_≡_};
-ghost use lib.ListN.{take};
 ghost use Prim.Native.Nat.{_-_, _^_, min};
 ghost use Rattle.cursor.specs.Append.{moved};
 ghost use Rattle.dst.specs.Unit.{unitSize, sizes};

@@ -1,7 +1,7 @@
 -- The walk over the lengths, a frame at a time: the units' sizes are a function of the frames' lengths. Assumes nothing.
 use mathlib.Core.Path.{_≡_, refl, sym, ap, _∙_}
 use mathlib.Core.Logic.{_⊎_, inl, inr}
-use mathlib.Core.Bool.{Bool, true, false}
+use mathlib.Core.Bool.{Bool}
 use mathlib.Core.List.{List, map}
 use Prim.Native.Nat.{ℕ, suc, _+_, _-_, _≤_, _<_}
 use native.Mathlib.Nat.{zero-add}
@@ -12,10 +12,9 @@ use Rattle.sound_reads.specs.declared.place.Place.{Place}
 use Rattle.chunk.specs.Chunk.{occupied}
 use Rattle.dst.specs.Unit.{unitSize}
 use Rattle.dst.specs.Start.{start}
-use Rattle.sound_reads.specs.Place.{placeOf, byteAt, Inside}
+use Rattle.sound_reads.specs.Place.{placeOf, Inside}
 use Rattle.sound_reads.specs.Positions.{positions}
-use Rattle.dst.proofs.StartLaws.{start-zero, start-suc, start-mono, size-at}
-use Rattle.window.proofs.TestLaws.{lt-or-le}
+use Rattle.dst.proofs.StartLaws.{start-zero, start-suc, size-at}
 use Rattle.sound_reads.proofs.PlaceLaws.{place-is, place-end}
 use Rattle.sound_reads.proofs.PositionsLaws.{positions-are}
 

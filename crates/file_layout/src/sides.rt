@@ -1,5 +1,4 @@
 // FRM8's data up to the first sound byte, and what follows the sound.
-ghost use mathlib.Core.Path.{_≡_};
 ghost use Rattle.cursor.specs.Append.{Appended};
 ghost use Rattle.file_tree.specs.Parts.{partsOf};
 ghost use Rattle.file_tree.specs.Sides.{named, front, back};

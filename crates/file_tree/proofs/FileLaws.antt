@@ -2,7 +2,7 @@
 use mathlib.Core.Path.{_≡_, refl, ap, sym, _∙_}
 use mathlib.Core.Bool.{Bool, true, false, cond, true≢false}
 use mathlib.Core.List.{List, [], _∷_, _++_, map, flatMap, append-assoc}
-use Prim.Native.Nat.{ℕ, _+_, _*_, _%_, _^_, _≤_, _<_}
+use Prim.Native.Nat.{ℕ, _+_, _%_, _^_, _≤_, _<_}
 use native.Mathlib.Omega.{arith}
 use lib.ListN.{length, length-append}
 use Rattle.cursor.specs.Number.{be}
@@ -13,7 +13,7 @@ use Rattle.chunk_names.specs.declared.LocalChunk.{LocalChunk}
 use Rattle.chunk_names.specs.declared.LocalChunk.the-variants.{Property, SoundData, DstIndex, EditedMasterInfo, Comments}
 use Rattle.cursor.proofs.NumberLaws.{length-be}
 use Rattle.chunk.proofs.ChunkLaws.{length-chunk}
-use Rattle.tree.proofs.TreeLaws.{bytes-stop, bytes-leaf, bytes-node, bytes-join, bytes-each, bytes-each-cons}
+use Rattle.tree.proofs.TreeLaws.{bytes-stop, bytes-leaf, bytes-node, bytes-join, bytes-each}
 use Rattle.comt.specs.Comment.{writtenComments, comtData, hasComt, comtChunk}
 use Rattle.comt.proofs.CommentLaws.{comt-tree}
 use Rattle.dst.specs.Frame.{Frame}
@@ -28,7 +28,7 @@ use Rattle.master_info.specs.Diin.{infoChunks, hasDiin, diin}
 use Rattle.refusal.specs.Orders.{localRank, times}
 use Rattle.build_options.specs.Inputs.{Inputs}
 use Rattle.file_tree.specs.Parts.{Parts, parts, info, hasIndex, firstOffset, indexOf}
-use Rattle.file_tree.specs.Sound.{soundBytes, soundChunk, Fits, soundSize, soundHead}
+use Rattle.file_tree.specs.Sound.{soundBytes, soundChunk, Fits, soundHead}
 use Rattle.caller_chunks.specs.Caller.{callerChunk, callerChunks}
 use Rattle.file_tree.specs.Sides.{isSound, before, behind, localBytes, localsBytes, version, front, back}
 use Rattle.file_tree.specs.File.{given, frontOf, backOf, place, soundLength, formSize, headerOf, trailerOf, localChunk, formChunks, fileOf}

@@ -1,17 +1,16 @@
 -- The sound chunk is its head and the sound. Assumes nothing.
-use mathlib.Core.Path.{_≡_, refl, ap, sym, _∙_}
+use mathlib.Core.Path.{_≡_, sym, _∙_}
 use mathlib.Core.Bool.{Bool}
 use mathlib.Core.List.{List, [], _∷_, _++_, map, flatMap, append-nil}
 use Prim.Native.Nat.{ℕ, zero, suc, _+_, _*_, _%_, _^_, _<_}
 use native.Mathlib.Nat.{mul-assoc, mul-comm, zero-mul, suc-mul, add-comm}
 use native.Mathlib.Omega.{arith}
 use lib.ListN.{length, replicate, length-append}
-use Rattle.cursor.specs.Number.{be}
 use Rattle.chunk_names.specs.Name.{ascii}
 use Rattle.tree.specs.Tree.{stop, bytes}
 use Rattle.tree.proofs.TreeLaws.{bytes-stop, bytes-leaf}
 use Rattle.dst.specs.Frame.{Frame, frameBytes, dsdSound}
-use Rattle.dst.proofs.UnitLaws.{chunk-even, length-sound, even-sizes, dst-bytes}
+use Rattle.dst.proofs.UnitLaws.{chunk-even, length-sound, dst-bytes}
 use Rattle.prop_fields.specs.declared.compression.Sound.{Sound}
 use Rattle.prop_fields.specs.declared.compression.Sound.the-variants.{Dsd, Dst}
 use Rattle.build_options.specs.declared.area.Area.{Area}

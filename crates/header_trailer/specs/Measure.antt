@@ -1,6 +1,5 @@
 -- What measuring answers. Assumes nothing.
 use mathlib.Core.Path.{_≡_}
-use Prim.Native.Nat.{ℕ}
 use lib.ListN.{length}
 use Rattle.cursor.specs.Append.{moved}
 use Rattle.build_options.specs.Inputs.{Inputs}

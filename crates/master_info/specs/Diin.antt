@@ -1,7 +1,7 @@
 -- DIIN (01: "With info on, DIIN holds in info order EMID (its bytes, if on), every MARK, DIAR and DITI; with info off there is no DIIN. Empty DIIN is written only
 -- under its option"). Assumes nothing.
 use Prim.Native.Nat.{ℕ, _-_, _^_}
-use mathlib.Core.Bool.{Bool, true, false, cond, not, _&&_, _||_}
+use mathlib.Core.Bool.{Bool, cond, not, _&&_, _||_}
 use mathlib.Core.List.{List, []}
 use lib.ListN.{length}
 use lib.Dec.{eqb, ltb}

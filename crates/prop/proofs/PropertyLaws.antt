@@ -1,12 +1,12 @@
 -- The laws of PROP and its chunks. Assumes nothing.
-use mathlib.Core.Path.{_≡_, refl, sym, ap, _∙_}
+use mathlib.Core.Path.{_≡_, refl, ap}
 use mathlib.Core.Bool.{Bool, true, false}
-use mathlib.Core.List.{List, [], _∷_, _++_, append-assoc, append-nil}
-use Prim.Native.Nat.{ℕ, _+_, _%_, _^_, _≤_, _<_}
+use mathlib.Core.List.{List, [], _++_}
+use Prim.Native.Nat.{ℕ, _+_, _≤_}
 use native.Mathlib.Omega.{arith}
 use lib.ListN.{length, length-append}
 use Rattle.cursor.specs.Number.{be}
-use Rattle.chunk_names.specs.Name.{Name, ascii, same}
+use Rattle.chunk_names.specs.Name.{ascii, same}
 use Rattle.chunk.specs.Chunk.{pad, chunk, occupied, counts}
 use Rattle.frame_time.specs.Time.{timeOf, timeBytes}
 use Rattle.tree.specs.Tree.{bytes}
@@ -15,7 +15,7 @@ use Rattle.chunk_names.specs.declared.PropertyChunk.{PropertyChunk}
 use Rattle.chunk_names.specs.declared.PropertyChunk.the-variants.{SampleRate, Channels, CompressionType, AbsoluteStartTime, LoudspeakerConfiguration}
 use Rattle.frame_time.specs.declared.time.FrameTime.{FrameTime}
 use Rattle.cursor.proofs.NumberLaws.{length-be}
-use Rattle.chunk.proofs.ChunkLaws.{length-chunk, length-counts}
+use Rattle.chunk.proofs.ChunkLaws.{length-chunk}
 use Rattle.chunk.proofs.ListLaws.{flatMap-bound}
 use Rattle.tree.proofs.TreeLaws.{bytes-leaf, bytes-each}
 use Rattle.tree.proofs.ValueLaws.{counted-text}

@@ -1,7 +1,5 @@
 // The compression type: the data of CMPR.
-ghost use mathlib.Core.List.{_++_};
 ghost use Rattle.cursor.specs.Append.{Appended};
-ghost use Rattle.chunk.specs.Chunk.{counts};
 ghost use Rattle.prop_fields.specs.Compression.{compressionData, cmprData};
 use chunk::chunks::pad;
 use cursor::Cursor;

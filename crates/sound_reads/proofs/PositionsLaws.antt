@@ -9,7 +9,6 @@ use native.Mathlib.Omega.{arith}
 use borrow.Author.Tests.{lt-ltb, le-ltb, eqb-true, eqb-false, leb-true, leb-false}
 use lib.Dec.{eqb, leb}
 use lib.ListN.{length, getD}
-use Rattle.sound_reads.specs.declared.place.Positions.{Positions}
 use Rattle.sound_reads.specs.declared.place.Place.{Place}
 use Rattle.dst.specs.Start.{start}
 use Rattle.sound_reads.specs.Place.{firstOf, byteAt}

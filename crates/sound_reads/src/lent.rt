@@ -3,7 +3,6 @@ ghost use mathlib.Core.Path.{_≡_};
 ghost use Prim.Native.Nat.{_-_, _*_, _^_, min};
 ghost use mathlib.Core.Bool.{cond};
 ghost use lib.Dec.{eqb, ltb};
-ghost use lib.ListN.{length};
 ghost use Rattle.chunk_names.specs.Name.{same};
 ghost use Rattle.dst.specs.Start.{sum};
 ghost use Rattle.sound_reads.specs.Lent.{isLent};
