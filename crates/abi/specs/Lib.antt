@@ -1,3 +1,4 @@
 pub mod Sound
 pub mod Verdict
 pub mod Build
+pub mod Reads

@@ -6,3 +6,4 @@ pub mod property; // property.rt: PROP
 pub mod diin; // diin.rt: DIIN
 pub mod verdict; // verdict.rt: the verdict on the inputs of a build
 pub mod build; // build.rt: header and trailer of a file
+pub mod reads; // reads.rt: the query and the read of a whole file

@@ -6,6 +6,7 @@ use Prim.Native.Nat.{ℕ, zero, suc, _+_, _-_, _*_, _/_, _^_, _≤_, _<_, min}
 use native.Mathlib.Nat.{mul-le-mul}
 use native.Mathlib.Numerals.{add-one}
 use native.Mathlib.Omega.{arith}
+use lib.Dec.{eqb}
 use borrow.Author.Tests.{eqb-false}
 use lib.ListN.{length, getD, take, drop, length-append, length-take}
 use Rattle.cursor.specs.Number.{be}
@@ -92,6 +93,12 @@ rank-take (suc n) (c ∷ cs) = ap (λ (l : List ℕ). localRank c ∷ l) (rank-t
 one-of : (n : ℕ) → n ≤ 1 → (n ≡ 0 → ⊥) → n ≡ 1
 one-of n most some = omega arith
 
+-- a local chunk that is named is named once
+pub named-once : (x : Inputs) → verdict x ≡ Accepted → (rank : ℕ) → rank < 5
+    → eqb (times (take (min (x .localCount) 5) (map localRank (x .localOrder))) rank) 0 ≡ false → times (map localRank (given x)) rank ≡ 1
+named-once x ok rank h named =
+    rw (rank-take (min (x .localCount) 5) (x .localOrder)) (one-of _ (accepted.local-once x ok rank h) (eqb-false _ 0 named))
+
 module _ (x : Inputs) (ok : verdict x ≡ Accepted) (sized : Ordered x) where
   pub positions-few : positions (x .area) ≤ 1_151_999
   positions-few = omega (arith, accepted.range-inside x ok .1, accepted.playtime-bound x ok)
@@ -105,9 +112,7 @@ module _ (x : Inputs) (ok : verdict x ≡ Accepted) (sized : Ordered x) where
 
   -- the sound is named once
   pub sound-once : times (map localRank (given x)) 1 ≡ 1
-  sound-once =
-      rw (rank-take (min (x .localCount) 5) (x .localOrder))
-      (one-of _ (accepted.local-once x ok 1 (omega arith)) (eqb-false _ 0 (accepted.sound-named x ok)))
+  sound-once = named-once x ok 1 (omega arith) (accepted.sound-named x ok)
 
   pub sound-low : soundLength x < 2 ^ 40
   unfolding soundSize frameBytes

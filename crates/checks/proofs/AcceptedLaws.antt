@@ -7,6 +7,7 @@ use native.Mathlib.Omega.{arith}
 use lib.Dec.{eqb, ltb}
 use lib.ListN.{length, getD, take}
 use borrow.Author.Tests.{ltb-false, eqb-false}
+use Rattle.chunk_names.specs.Name.{reserved}
 use Rattle.chunk_names.specs.declared.LocalChunk.the-variants.{Property, SoundData, DstIndex, EditedMasterInfo, Comments}
 use Rattle.comt.specs.Comment.{writtenComments, hasComt}
 use Rattle.master_info.specs.Diin.{hasDiin}
@@ -17,12 +18,14 @@ use Rattle.refusal.specs.Verdict.{orElse}
 use Rattle.refusal.specs.Below.{any}
 use Rattle.row_extents.specs.Extents.{tooLarge, outsidePool}
 use Rattle.refusal.specs.Orders.{propertyRank, infoRank, localRank, times, eachOnce}
+use Rattle.rows.specs.Row.{countOfRows}
 use Rattle.rows.specs.Lengths.{lengthWrong, lengthsWrong}
+use Rattle.faults.specs.Caller.{isNoName, nameFault, callerName, callerFaults}
 use Rattle.comment_faults.specs.Comments.{commentFaults}
 use Rattle.refusal.specs.declared.verdict.Verdict.{Verdict}
 use Rattle.refusal.specs.declared.verdict.Verdict.the-variants.{Accepted}
 use Rattle.rows.specs.declared.row.Row.the-variants.{Text, Caller, Track, Marker, Comment}
-use Rattle.refusal.proofs.VerdictLaws.{or-accepted, after, if-accepted, neither, inside, none-so}
+use Rattle.refusal.proofs.VerdictLaws.{or-accepted, after, if-accepted, neither, inside, none-so, none-refused}
 use Rattle.row_extents.proofs.RowFaultLaws.{RowsFit, rows-fit, not-not}
 use Rattle.comment_faults.proofs.CommentFaultLaws.{few-written}
 use Rattle.build_options.specs.Area.{positions, isDst}
@@ -252,6 +255,14 @@ module _ (x : Inputs) (ok : verdict x ≡ Accepted) where
 
   pub callers-fit : RowsFit Caller (x .callers) mostCallerChunks longestCallerChunk (length (x .raw))
   callers-fit = rows-fit Caller (x .callers) _ _ _ (not-large .f) (not-outside .f)
+
+  -- 4 and 5: a caller's chunk has no name that is the writer's own
+  pub callers-named : (k : ℕ) → k < countOfRows Caller (x .callers) → reserved (callerName (x .callers) k) ≡ false
+  unfolding givenFaults callerFaults
+  callers-named k h =
+      let names = or-accepted (limitFaults (x .options) (x .pool) (x .raw) (x .tracks) (x .markers) (x .comments) (x .callers)) _ given-ok .1 in
+      let one = none-refused (λ i. nameFault (callerName (x .callers) i)) (countOfRows Caller (x .callers)) names k h in
+      if-accepted _ 5 0 (after (isNoName (callerName (x .callers) k)) 4 0 one .1)
 
   -- 28 and 29
   property-tests : (not (eachOnce (map propertyRank (x .propertyOrder)) 5) ≡ false) × (startFault (x .area) (effective (x .options) .start) ≡ Accepted)

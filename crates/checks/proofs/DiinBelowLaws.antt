@@ -66,7 +66,8 @@ module _ (x : Inputs) (ok : verdict x ≡ Accepted) where
           omega (arith, toc-few (info .program) (spans (x .tracks)), length-mapped spanOf 4 (x .tracks), tracks-fit x ok .few) in
           made
 
-  limited : Limited longestText 65_535 (x .tracks) (x .markers) info
+  -- what DIIN is made of keeps to the limits
+  pub limited : Limited longestText 65_535 (x .tracks) (x .markers) info
   limited = record {
     id = given-short (info .emid) (emid-fits x ok .short 0 (omega arith));
     artists = (given-short (info .track .artist) (tags-fit x ok .short 2 (omega arith)), given-short (info .album .artist) (tags-fit x ok .short 0 (omega arith)));

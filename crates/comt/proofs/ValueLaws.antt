@@ -36,7 +36,8 @@ comments-plain (c ∷ cs) w =
       comments-plain cs (w .2),
     )
 
-comt-plain : (cs : List Written) → length cs < 256 ^ 2 → Fits cs → value (ascii "FRM8") (ascii "COMT") (comtData cs) ≡ comtValue cs
+-- COMT, with the pads in the data and without them
+pub comt-plain : (cs : List Written) → length cs < 256 ^ 2 → Fits cs → value (ascii "FRM8") (ascii "COMT") (comtData cs) ≡ comtValue cs
 unfolding value comtData comtValue same
 comt-plain cs small fits =
     let count = be 2 (length cs) in

@@ -47,13 +47,12 @@ module _ (channels : ℕ) (xs : List (List ℕ)) (even : map (λ (c : List ℕ).
       ∙ drop-replicate f (wants .end) (wants .first))
       ∙ sum-replicate f (number wants))
 
-  -- what `dsd_data::fill` promises of those contents is a read of the file
-  pub read-real-dsd : {last : List ℕ} {r : Fill}
-      → Filling (eqb (frameBytes channels * number wants) (length (dsdSound (between wants xs))))
-      (dsdSound (contentsWith (frameBytes channels) wants (length xs) (dsdSound (between wants xs)))) w out last r
+  -- what a read shows of the sound that has the needed contents is what it shows of the file's
+  pub same-sound-dsd : {last : List ℕ} {r : Fill}
+      → Filling true (dsdSound (contentsWith (frameBytes channels) wants (length xs) (dsdSound (between wants xs)))) w out last r
       → Filling true (dsdSound xs) w out last r
   unfolding dsdSound
-  read-real-dsd q =
+  same-sound-dsd q =
       let f = frameBytes channels in
       let n = length xs in
       let lent = dsdSound (between wants xs) in
@@ -61,4 +60,11 @@ module _ (channels : ℕ) (xs : List (List ℕ)) (even : map (λ (c : List ℕ).
       part-real (λ (c : List ℕ). c) (contentsWith f wants n lent) xs (replicate n f) (with-sizes f wants n lent (k .0) (k .1) lent-even) even w out
       (frames-touched f n (w .skip) (length out - w .at))
       (ap dsdSound (with-rows f wants n lent (k .0) (k .1) lent-even) ∙ rows-joined f (number wants) lent (sym lent-even))
-      (rw (eq-eqb (f * number wants) (length lent) lent-even) at q)
+      q
+
+  -- what `dsd_data::fill` promises of those contents is a read of the file
+  pub read-real-dsd : {last : List ℕ} {r : Fill}
+      → Filling (eqb (frameBytes channels * number wants) (length (dsdSound (between wants xs))))
+      (dsdSound (contentsWith (frameBytes channels) wants (length xs) (dsdSound (between wants xs)))) w out last r
+      → Filling true (dsdSound xs) w out last r
+  read-real-dsd q = same-sound-dsd (rw (eq-eqb (frameBytes channels * number wants) (length (dsdSound (between wants xs))) lent-even) at q)

@@ -29,12 +29,12 @@ use Rattle.build_answer.specs.declared.answer.Answer.the-variants.{Built}
 use Rattle.assemble.specs.Build.{buildVerdict, Outcome, Builds}
 
 -- a build that answers lengths was accepted, and its buffers begin with header and trailer
-record Made (x : Inputs) (h′ t′ : List ℕ) (a c : ℕ) : Type 0 where
+pub record Made (x : Inputs) (h′ t′ : List ℕ) (a c : ℕ) : Type 0 where
   pub ok : verdict x ≡ Accepted
   pub header : take a h′ ≡ headerOf x
   pub trailer : take c t′ ≡ trailerOf x
 
-made : (x : Inputs) (h t : List ℕ) {h′ t′ : List ℕ} {r : Answer} {a b c : ℕ} → Builds x h h′ t t′ r → r ≡ Built a b c → Made x h′ t′ a c
+pub made : (x : Inputs) (h t : List ℕ) {h′ t′ : List ℕ} {r : Answer} {a b c : ℕ} → Builds x h h′ t t′ r → r ≡ Built a b c → Made x h′ t′ a c
 made x h t {h′} {t′} {r} {a} {b} {c} outcome e = by (buildVerdict x h t) refl outcome
   where
     by : (v : Verdict) → buildVerdict x h t ≡ v → Outcome x v h h′ t t′ r → Made x h′ t′ a c

@@ -97,17 +97,23 @@ module _ (crc : Bool) (channels : ℕ) (fs : List Frame) (plain : Plain crc chan
   given : isLent (plainBytes crc channels) (between needs (lengths fs)) (lengths some) (codes some) (contents crc some) ≡ true
   given = rw (← lengths-some) (lent-given crc channels some plain-some)
 
-  -- what `dst_data::fill` promises of those frames is a read of the file
-  pub read-real : {last : List ℕ} {r : Fill}
-      → Filling (isLent (plainBytes crc channels) (between needs (lengths fs)) (lengths some) (codes some) (contents crc some))
-      (sound crc (framesWith (plainBytes crc channels) needs (lengths fs) (codes some) (contents crc some))) w out last r
+  -- what a read shows of the sound that has the needed frames is what it shows of the file's
+  pub same-sound : {last : List ℕ} {r : Fill}
+      → Filling true (sound crc (framesWith (plainBytes crc channels) needs (lengths fs) (codes some) (contents crc some))) w out last r
       → Filling true (sound crc fs) w out last r
   unfolding sound
-  read-real q =
+  same-sound q =
       let n = plainBytes crc channels in
       let ls = lengths fs in
       part-real (unitBytes crc) (framesWith n needs ls (codes some) (contents crc some)) fs (sizes crc ls)
       (sizes-with crc ls n (lengths some) (codes some) (contents crc some) w out given)
       (sizes-of crc fs) w out (units-touched crc ls (w .skip) (length out - w .at))
       (ap (flatMap (unitBytes crc)) (between-with crc ls n (lengths some) (codes some) (contents crc some) w out given) ∙ lent-sound crc channels some plain-some)
-      (rw given at q)
+      q
+
+  -- what `dst_data::fill` promises of those frames is a read of the file
+  pub read-real : {last : List ℕ} {r : Fill}
+      → Filling (isLent (plainBytes crc channels) (between needs (lengths fs)) (lengths some) (codes some) (contents crc some))
+      (sound crc (framesWith (plainBytes crc channels) needs (lengths fs) (codes some) (contents crc some))) w out last r
+      → Filling true (sound crc fs) w out last r
+  read-real q = same-sound (rw given at q)

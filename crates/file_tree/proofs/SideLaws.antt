@@ -87,11 +87,11 @@ unfolding below
 how-many-front f zero = omega arith
 how-many-front f (suc n) = omega (arith, how-many-front f n)
 
-times-cons : (x : ℕ) (xs : List ℕ) (r : ℕ) → times (x ∷ xs) r ≡ cond (eqb x r) 1 0 + times xs r
+pub times-cons : (x : ℕ) (xs : List ℕ) (r : ℕ) → times (x ∷ xs) r ≡ cond (eqb x r) 1 0 + times xs r
 unfolding times
 times-cons x xs r = how-many-front (λ k. eqb (getD (x ∷ xs) k 0) r) (length xs)
 
-times-none : (r : ℕ) → times [] r ≡ 0
+pub times-none : (r : ℕ) → times [] r ≡ 0
 unfolding times below
 times-none r = refl
 

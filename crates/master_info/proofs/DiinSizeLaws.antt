@@ -68,7 +68,7 @@ module _ (n : ℕ) where
   pick-short Track has track album i j = of-track-short has track i
   pick-short TrackThenAlbum has track album i j = first-short (ofTrack has track) album (of-track-short has track i) j
 
-  chosen-short : (info : Info) (track album : Text) → ShortGiven track → ShortGiven album → ShortGiven (chosen info track album)
+  pub chosen-short : (info : Info) (track album : Text) → ShortGiven track → ShortGiven album → ShortGiven (chosen info track album)
   unfolding chosen
   chosen-short info track album i j =
       let has = not (eqb (info .program .«source_track») 0) in

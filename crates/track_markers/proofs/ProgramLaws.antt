@@ -12,7 +12,7 @@ use Rattle.markers.specs.declared.marker.Marker.{Marker}
 use Rattle.tracks.specs.declared.track.Span.{Span}
 use Rattle.tracks.proofs.OrderLaws.{endAfter, endAfter-snoc, some-append}
 
-eqb-comm : (a b : ℕ) → eqb a b ≡ eqb b a
+pub eqb-comm : (a b : ℕ) → eqb a b ≡ eqb b a
 eqb-comm a b = go (eqb b a) refl
   where
     go : (t : Bool) → eqb b a ≡ t → eqb a b ≡ t

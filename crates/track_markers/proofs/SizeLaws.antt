@@ -45,7 +45,7 @@ module _ (n : ℕ) where
   abbrev pub ShortTitles : List Span → Type 0
   ShortTitles ss = All (λ s. s .title .length ≤ n) ss
 
-  text-room : (pool raw : List ℕ) (how : Marking) (t : MarkerText) → ShortText t → length (markerText pool raw (how .text .rule) t) ≤ n
+  pub text-room : (pool raw : List ℕ) (how : Marking) (t : MarkerText) → ShortText t → length (markerText pool raw (how .text .rule) t) ≤ n
   unfolding markerText
   text-room pool raw how Empty h = omega arith
   text-room pool raw how (Bytes e) h = le-trans (length-part raw e) h

@@ -3,7 +3,7 @@ use mathlib.Core.Path.{_≡_, refl, sym, ap, ap₂, _∙_}
 use mathlib.Core.Logic.{_⊎_, inl, inr, ⊎-elim}
 use mathlib.Core.List.{List, [], _∷_, _++_, append-nil, append-assoc}
 use Prim.Native.Nat.{ℕ, zero, suc, _+_, _-_, _^_, _%_, _≤_, _<_, min}
-use native.Mathlib.Nat.{add-assoc, add-suc, add-zero, zero-add, mod-lt}
+use native.Mathlib.Nat.{add-assoc, add-suc, add-zero, zero-add, mod-lt, not-suc-le-zero, le-of-suc-le-suc}
 use native.Mathlib.Omega.{arith, sub-cases}
 use borrow.Rule.Slice.PartMut.{midOf, postOf, putMid}
 use lib.ListN.{length, take, drop, set, replicate, length-append, length-drop, drop-of-length-le, take-append-drop}
@@ -87,6 +87,50 @@ _then_ {a} {b} {w} {v} {u} {out} {mid} {last} p q =
           rw (q .filled, p .filled, p .place, drop-append a b (w .skip), ← la)
           (next-place out (w .at) A (drop (w .skip - length a) b));
       place = rw (q .place, p .place, lm, length-append a b) (after-after (length a) (length b) (length out) w);
+    }
+
+-- two bytes stored at two places
+set-apart : (xs : List ℕ) (i p b c : ℕ) → i < p → set (set xs i b) p c ≡ set (set xs p c) i b
+set-apart [] i p b c h = refl
+set-apart (x ∷ xs) i zero b c h = absurd (not-suc-le-zero h)
+set-apart (x ∷ xs) zero (suc p) b c h = refl
+set-apart (x ∷ xs) (suc i) (suc p) b c h = ap (λ (l : List ℕ). x ∷ l) (set-apart xs i p b c (le-of-suc-le-suc h))
+
+-- a byte stored before the place of an overlay
+set-overlay : (xs : List ℕ) (i b p : ℕ) (bs : List ℕ) → i < p → overlay (set xs i b) p bs ≡ set (overlay xs p bs) i b
+unfolding overlay
+set-overlay xs i b p [] h = refl
+set-overlay xs i b p (c ∷ bs) h = rw (set-apart xs i p b c h) (set-overlay (set xs p c) i b (suc p) bs (omega arith))
+
+-- two overlays, the one before the other
+overlay-apart : (xs : List ℕ) (a : ℕ) (cs : List ℕ) (p : ℕ) (bs : List ℕ) → a + length cs ≤ p → overlay (overlay xs p bs) a cs ≡ overlay (overlay xs a cs) p bs
+unfolding overlay
+overlay-apart xs a [] p bs h = refl
+overlay-apart xs a (x ∷ cs) p bs h = rw (← set-overlay xs a x p bs (omega arith)) (overlay-apart (set xs a x) (suc a) cs p bs (omega arith))
+
+-- where the first of two pieces goes, if the second is there already
+first-place : (xs : List ℕ) (a : ℕ) (A B : List ℕ) → overlay (overlay xs (a + min (length A) (length xs - a)) B) a A ≡ overlay xs a (A ++ B)
+first-place xs a A B =
+    ⊎-elim
+    (λ h.
+    let l = length-overlay xs a A in
+    let out : length xs ≤ a + min (length A) (length xs - a) = omega arith in
+    ap (λ (ys : List ℕ). overlay ys a A) (overlay-out xs (a + min (length A) (length xs - a)) B out)
+    ∙ sym (overlay-out (overlay xs a A) (a + min (length A) (length xs - a)) B (omega arith))
+    ∙ next-place xs a A B)
+    (λ h. overlay-apart xs a A (a + min (length A) (length xs - a)) B (omega arith) ∙ next-place xs a A B)
+    (lt-or-le (length xs - a) (length A))
+
+-- a piece that is put after the piece that follows it
+pub before : {a b : List ℕ} {w v u t : Window} {out mid last : List ℕ} → v ≡ after (length a) (length out) w → Wrote b v out mid u → Wrote a w mid last t
+    → Wrote (a ++ b) w out last u
+unfolding shown after
+before {a} {b} {w} {v} {u} {t} {out} {mid} {last} e q p =
+    let A = drop (w .skip) a in
+    let la : length A ≡ length a - w .skip = length-drop (w .skip) a in
+    record {
+      filled = rw (p .filled, q .filled, e, drop-append a b (w .skip), ← la) (first-place out (w .at) A (drop (w .skip - length a) b));
+      place = rw (q .place, e, length-append a b) (after-after (length a) (length b) (length out) w);
     }
 
 -- nothing is put

@@ -4,7 +4,7 @@ ghost use mathlib.Core.Path.{_≡_};
 ghost use mathlib.Core.List.{_++_};
 ghost use Prim.Native.Nat.{_≤_, _-_, min};
 ghost use lib.ListN.{length, take, drop};
-ghost use Rattle.window.specs.Window.{Wrote};
+ghost use Rattle.window.specs.Window.{after, Wrote};
 
 // Bytes written so far, and bytes of what is read that are still to be skipped.
 pub struct Window {
@@ -95,6 +95,31 @@ impl Window {
             };
         }
         Window { at, skip: 0 }
+    }
+
+    // Past a piece of so many bytes, which is put into a buffer of `len` bytes later, or was before.
+    pub fn past(self, size: u64, len: usize) -> Window
+        ensures { λ r. ⌜ r ≡ after size len self ⌝ }
+    {
+        let at = self.at;
+        let skip = self.skip;
+        if size <= skip {
+            return Window {
+                at,
+                skip: skip - size,
+            };
+        }
+        let free = room(len, at);
+        if (free as u64) < size - skip {
+            return Window {
+                at: at + free,
+                skip: 0,
+            };
+        }
+        Window {
+            at: at + (size - skip) as usize,
+            skip: 0,
+        }
     }
 
     // Puts the next piece.

@@ -1,0 +1,15 @@
+pub mod ReportLaws
+pub mod CallerNameLaws
+pub mod ShapeLaws
+pub mod PropertyLaws
+pub mod InfoLaws
+pub mod ToldLaws
+pub mod FoundLaws
+pub mod OnceLaws
+pub mod MissedLaws
+pub mod FoundPropertyLaws
+pub mod FoundSoundLaws
+pub mod LocalLaws
+pub mod MissedCallerLaws
+pub mod WithinLaws
+pub mod RecordingLaws

@@ -1,0 +1,4 @@
+pub mod FilledLaws
+pub mod RealLaws
+pub mod FaithfulLaws
+pub mod OldReadersProof

@@ -1,0 +1,58 @@
+-- DEMAND 3, as one claim about any list of reads of one accepted build, refused ones included, from nothing gathered. The hypotheses are what build and read promise, and the
+-- premises of specs/Premises.antt; nothing else. Assumes nothing.
+use mathlib.Core.Path.{_≡_}
+use mathlib.Core.Bool.{Bool, cond}
+use mathlib.Core.List.{List, [], _∷_}
+use mathlib.Core.Option.{Option, none, some, IsSome}
+use Prim.Native.Nat.{ℕ, _-_, _*_, _<_}
+use lib.ListN.{length, take, drop, getD, getElem?}
+use Rattle.cursor.specs.Number.{num}
+use Rattle.chunk_names.specs.Name.{Name, ascii}
+use Rattle.chunk.specs.Chunk.{chunk}
+use Rattle.tree.specs.Tree.{bytes}
+use Rattle.tree.specs.Reader.{Walked, read}
+use Rattle.tree.specs.Value.{dsdiff}
+use Rattle.tree.specs.Gather.{Gathered, nothing, gather, covered, Holds}
+use Rattle.dst.specs.Frame.{Frame}
+use Rattle.dst_index.specs.Index.{shiftOf, Stands}
+use Rattle.prop_fields.specs.declared.compression.Sound.the-variants.{Dst}
+use Rattle.build_options.specs.Inputs.{Inputs}
+use Rattle.file_tree.specs.Parts.{parts, hasIndex, indexOf}
+use Rattle.file_tree.specs.File.{fileOf, place}
+use Rattle.file_reports.specs.Values.{told}
+use Rattle.file_reports.specs.Recording.{Known, Knows, Recording, Indexed}
+use Rattle.old_readers.specs.Premises.{AcceptedBuild, Call, Recorded, AllGiven, readsOf}
+
+-- the bytes of the build's file with these frames, and what the calls gather from nothing
+abbrev pub fileBytes : AcceptedBuild → List Frame → List ℕ
+fileBytes b fs = bytes (fileOf (b .inputs) fs)
+
+abbrev pub gathered : List Call → Gathered
+gathered cs = gather nothing (readsOf cs)
+
+-- the place that entry i of the index tells, by the build's option of what an offset leads to
+abbrev pub entryPlace : Inputs → ℕ → ℕ
+entryPlace x i = num (take 8 (drop (12 * i) (indexOf (parts x) (place x)))) - shiftOf (x .options .«dst_index_offset»)
+
+-- What an old reader that knows some names gets of a file s. (b) It reads s to its last byte (c) and reports exactly the known chunks that 01's rules make of inputs and frames,
+-- in file order; among them, each once, the channels, the compression and every frame that were given; and the index, if it knows it and there is one.
+pub record Gets (known : Name → Name → Bool) (x : Inputs) (fs : List Frame) (s : List ℕ) : Type 0 where
+  pub reports : read (dsdiff known) s ≡ some (record { reports = told known x fs; end = length s })
+  pub recording : Recording x fs (told known x fs)
+  pub index : Known known (ascii "FRM8") (ascii "DSTI") → Indexed x (told known x fs)
+
+pub record OldReaders (b : AcceptedBuild) (fs : List Frame) (cs : List Call) : Type 0 where
+  -- (a) the places gathered are those of the file that the accepted reads' offsets and buffer lengths cover, each with the file's byte
+  pub covers : (p : ℕ) → gathered cs p ≡ cond (covered (readsOf cs) p) (getElem? (fileBytes b fs) p) none
+  -- (b), (c) once they are the whole file, of every list of bytes that is gathered, and for every reader that knows the names that it is to know
+  pub gets : ((p : ℕ) → p < length (fileBytes b fs) → IsSome (gathered cs p)) → (s : List ℕ) → Holds (gathered cs) s
+      → (known : Name → Name → Bool) → Knows known (b .inputs .area .sound) → Gets known (b .inputs) fs s
+  -- there is such a list: the file
+  pub whole : ((p : ℕ) → p < length (fileBytes b fs) → IsSome (gathered cs p)) → Holds (gathered cs) (fileBytes b fs)
+  -- (d) entry i of a DST build's index leads to frame i's DSTF
+  pub leads : b .inputs .area .sound ≡ Dst → (i : ℕ) (none : Frame) → i < length fs
+      → Stands (fileBytes b fs) (entryPlace (b .inputs) i) (chunk (ascii "DSTF") (getD fs i none .code))
+
+-- THE STATEMENT: of every accepted build, all frames of the lengths that it was given, and every list of calls
+abbrev pub EveryListOfReads : Type 0
+EveryListOfReads = (b : AcceptedBuild) (fs : List Frame) → Recorded (b .inputs) fs → (cs : List Call) → AllGiven b fs cs → OldReaders b fs cs
