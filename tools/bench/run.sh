@@ -1,5 +1,5 @@
 #!/bin/sh
-# Times reads of the sound by this repository's compiled library and by the original Rust, side by side:
+# Times builds and reads of whole files by this repository's compiled library and by the original Rust, side by side:
 #   run.sh [--request DIR] [--library FILE]
 # README.md says what is timed. Status: 0 it ran, 1 the bytes of the two differ, 2 something could not be run.
 set -eu

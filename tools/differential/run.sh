@@ -13,7 +13,7 @@ here=$(cd "$(dirname "$0")" && pwd)
 root=$(cd "$here/../.." && pwd)
 . "$root/tools/library/prepare.sh"
 seed=20240611
-count=20000
+count=
 subject=
 record=
 request=$root/../shared
@@ -37,7 +37,7 @@ prepare
 build differential
 
 status=0
-"$root/target/differential/release/differential" --seed "$seed" --count "$count" ${subject:+--subject "$subject"} ${record:+--record "$record"} \
+"$root/target/differential/release/differential" --seed "$seed" ${count:+--count "$count"} ${subject:+--subject "$subject"} ${record:+--record "$record"} \
     "$root/target/oracle/target/release/scarletbook" || status=$?
 [ "$status" -le 2 ] || failed "the comparison ended with status $status"
 exit "$status"

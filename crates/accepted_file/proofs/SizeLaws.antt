@@ -1,7 +1,7 @@
 -- An accepted build's header, sound and trailer are far below what a size can tell, and the sound is named once. Assumes nothing.
 use mathlib.Core.Path.{_≡_, refl, ap}
 use mathlib.Core.Bool.{Bool, true, false, cond}
-use mathlib.Core.List.{List, [], _∷_, _++_, map, flatMap}
+use mathlib.Core.List.{List, [], _∷_, _++_, map}
 use Prim.Native.Nat.{ℕ, zero, suc, _+_, _-_, _*_, _/_, _^_, _≤_, _<_, min}
 use native.Mathlib.Nat.{mul-le-mul}
 use native.Mathlib.Numerals.{add-one}
@@ -27,7 +27,6 @@ use Rattle.comt.proofs.CommentLaws.{Fits, comments-fit, length-comtData, comtDa
 use Rattle.dst.specs.Frame.{frameBytes}
 use Rattle.dst.specs.Unit.{unitSize, sizes}
 use Rattle.dst.specs.Start.{sum}
-use Rattle.dst.specs.Head.{head}
 use Rattle.dst_index.specs.Index.{dsti}
 use Rattle.dst_index.proofs.IndexLaws.{length-dsti, length-head}
 use Rattle.prop.specs.Property.{propertyChunks, property}

@@ -1,8 +1,6 @@
 // The read of a whole file. All is tested before the first byte is written: the sound, whose writer tests what is lent, comes before the header.
-ghost use mathlib.Core.Path.{_≡_};
 ghost use Prim.Native.Nat.{_-_};
 ghost use lib.ListN.{length};
-ghost use Rattle.window.specs.Window.{after};
 ghost use Rattle.sound_reads.specs.Fill.{Filling};
 ghost use Rattle.sound_reads.specs.Lent.{neededAt};
 ghost use Rattle.read_rules.specs.Format.{unitSizes};

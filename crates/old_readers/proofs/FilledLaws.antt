@@ -1,11 +1,10 @@
 -- What an accepted read filled, from its promise alone: the window of the file that it knows of. Assumes nothing.
 use mathlib.Core.Path.{_≡_, refl, sym, ap, _∙_}
 use mathlib.Core.Logic.{⊎-elim}
-use mathlib.Core.Bool.{Bool, true, false, not}
-use mathlib.Core.List.{List, [], _++_, append-nil}
+use mathlib.Core.List.{List, _++_, append-nil}
 use Prim.Native.Nat.{ℕ, _+_, _-_, _≤_, min}
 use native.Mathlib.Omega.{arith}
-use lib.ListN.{length, take, drop, length-drop, length-take, drop-of-length-le, take-append-drop}
+use lib.ListN.{length, take, drop, length-drop, drop-of-length-le, take-append-drop}
 use lib.Seq.{take-all, take-at, length-take-le}
 use Rattle.cursor.specs.Append.{overlay}
 use Rattle.cursor.proofs.AppendLaws.{length-overlay, overlay-out, overlay-append, overlay-room}
@@ -14,7 +13,6 @@ use Rattle.window.proofs.TestLaws.{lt-or-le}
 use Rattle.tree.specs.Gather.{window}
 use Rattle.refusal.specs.declared.verdict.Verdict.{Verdict}
 use Rattle.refusal.specs.declared.verdict.Verdict.the-variants.{Accepted, Refused}
-use Rattle.read_answer.specs.declared.answer.ReadAnswer.{ReadAnswer}
 use Rattle.read_answer.specs.declared.answer.ReadAnswer.the-variants as answer
 use Rattle.file_read.specs.Read.{Request, fileWith, Reading, Reads, readVerdict}
 

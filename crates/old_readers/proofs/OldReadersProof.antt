@@ -1,5 +1,5 @@
 -- DEMAND 3 holds: the proof of `EveryListOfReads` (specs/OldReaders.antt). Assumes nothing.
-use mathlib.Core.Path.{_≡_, refl, sym, ap, subst, _∙_}
+use mathlib.Core.Path.{_≡_, refl, sym, subst, _∙_}
 use mathlib.Core.Bool.{Bool}
 use mathlib.Core.List.{List, [], _++_}
 use mathlib.Core.Option.{some, IsSome}
@@ -8,8 +8,7 @@ use native.Mathlib.Nat.{zero-add}
 use native.Mathlib.Omega.{arith}
 use lib.ListN.{length, length-append}
 use Rattle.chunk_names.specs.Name.{Name}
-use Rattle.tree.specs.Tree.{bytes}
-use Rattle.tree.specs.Reader.{Report, read, reports}
+use Rattle.tree.specs.Reader.{read, reports}
 use Rattle.tree.specs.Value.{dsdiff}
 use Rattle.tree.specs.Gather.{Holds}
 use Rattle.tree.proofs.ReaderLaws.{walk-bytes}
@@ -21,7 +20,7 @@ use Rattle.refusal.specs.declared.verdict.Verdict.the-variants.{Accepted}
 use Rattle.build_options.specs.Inputs.{Inputs}
 use Rattle.checks.specs.InputVerdict.{verdict}
 use Rattle.file_tree.specs.Sound.{Fits, soundBytes}
-use Rattle.file_tree.specs.File.{place, soundLength, headerOf, trailerOf, fileOf}
+use Rattle.file_tree.specs.File.{place, headerOf, trailerOf, fileOf}
 use Rattle.file_tree.proofs.FileLaws.{length-header}
 use Rattle.file_tree.proofs.SoundLaws.{length-soundBytes}
 use Rattle.accepted_file.proofs.AcceptedLaws.{accepted-file}

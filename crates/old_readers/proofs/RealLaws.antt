@@ -1,20 +1,17 @@
 -- THE REAL FILE: an accepted read that was given what a build was given and made, and lent the needed frames, filled the window of the build's file. Assumes nothing.
 use mathlib.Core.Path.{_≡_, refl, sym, ap, subst, _∙_}
-use mathlib.Core.Bool.{Bool, true, false}
+use mathlib.Core.Bool.{Bool, true}
 use mathlib.Core.List.{List, [], _∷_, _++_, map, append-assoc}
-use Prim.Native.Nat.{ℕ, suc, _-_, min}
+use Prim.Native.Nat.{ℕ, _-_, min}
 use native.Mathlib.Omega.{arith}
-use lib.ListN.{length, take, replicate, length-map, length-replicate}
+use lib.ListN.{length, replicate, length-map, length-replicate}
 use Rattle.window.specs.declared.window.Window.{Window}
 use Rattle.window.specs.Window.{shown, after, Wrote}
 use Rattle.window.proofs.WindowLaws.{_then_, before}
-use Rattle.tree.specs.Gather.{window}
-use Rattle.tree.specs.Tree.{bytes}
 use Rattle.dst.specs.Frame.{Frame, frameBytes, plainBytes, dsdSound}
 use Rattle.dst.specs.Unit.{sound, lengths, sizes}
 use Rattle.prop_fields.specs.declared.compression.Sound.{Sound}
 use Rattle.prop_fields.specs.declared.compression.Sound.the-variants.{Dsd, Dst}
-use Rattle.sound_reads.specs.declared.place.Positions.{Positions}
 use Rattle.sound_reads.specs.declared.lent.Fill.{Fill}
 use Rattle.sound_reads.specs.declared.lent.Fill.the-variants as fill
 use Rattle.sound_reads.specs.Positions.{between}
@@ -25,7 +22,6 @@ use Rattle.dsd_reads.proofs.RealLaws.{same-sound-dsd}
 use Rattle.build_options.specs.Area.{positions}
 use Rattle.build_options.specs.Inputs.{Inputs}
 use Rattle.file_tree.specs.Sound.{Fits, soundBytes}
-use Rattle.file_tree.specs.File.{fileOf}
 use Rattle.dsdiff.proofs.WholeLaws.{whole}
 use Rattle.read_rules.specs.Format.{unitSizes}
 use Rattle.file_read.specs.Lent.{soundWith}

@@ -2,22 +2,22 @@
 -- premises of specs/Premises.antt; nothing else. Assumes nothing.
 use mathlib.Core.Path.{_≡_}
 use mathlib.Core.Bool.{Bool, cond}
-use mathlib.Core.List.{List, [], _∷_}
-use mathlib.Core.Option.{Option, none, some, IsSome}
+use mathlib.Core.List.{List}
+use mathlib.Core.Option.{none, some, IsSome}
 use Prim.Native.Nat.{ℕ, _-_, _*_, _<_}
 use lib.ListN.{length, take, drop, getD, getElem?}
 use Rattle.cursor.specs.Number.{num}
 use Rattle.chunk_names.specs.Name.{Name, ascii}
 use Rattle.chunk.specs.Chunk.{chunk}
 use Rattle.tree.specs.Tree.{bytes}
-use Rattle.tree.specs.Reader.{Walked, read}
+use Rattle.tree.specs.Reader.{read}
 use Rattle.tree.specs.Value.{dsdiff}
 use Rattle.tree.specs.Gather.{Gathered, nothing, gather, covered, Holds}
 use Rattle.dst.specs.Frame.{Frame}
 use Rattle.dst_index.specs.Index.{shiftOf, Stands}
 use Rattle.prop_fields.specs.declared.compression.Sound.the-variants.{Dst}
 use Rattle.build_options.specs.Inputs.{Inputs}
-use Rattle.file_tree.specs.Parts.{parts, hasIndex, indexOf}
+use Rattle.file_tree.specs.Parts.{parts, indexOf}
 use Rattle.file_tree.specs.File.{fileOf, place}
 use Rattle.file_reports.specs.Values.{told}
 use Rattle.file_reports.specs.Recording.{Known, Knows, Recording, Indexed}

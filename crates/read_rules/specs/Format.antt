@@ -1,7 +1,6 @@
 -- What a query or a read is told of the sound (01: "A read or query is given kind, CRC switch, channels, the lengths (DSD: the number of positions)"). Assumes
 -- nothing.
 use Prim.Native.Nat.{ℕ}
-use mathlib.Core.Bool.{Bool, false}
 use mathlib.Core.List.{List}
 use lib.ListN.{length, replicate}
 use Rattle.dst.specs.Frame.{frameBytes}

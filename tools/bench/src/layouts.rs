@@ -5,21 +5,30 @@ use crate::image::SectorFormat;
 use crate::output::{DstLengths, Format, InvalidDst, Layout, OutputOptions, SourceTrack, TagSet, Tags};
 use crate::toc::{Area, AreaKind, AreaPointer, AreaText, Date, DiscText, Genre, MasterToc, Timecode, Toc, Version};
 
-/// A file of DSD sound.
-pub fn dsd(channels: u8, positions: u32) -> Result<Layout, Error> {
-    Layout::new(&toc(channels, positions), Slot::TwoChannel, 0, positions, Format::DsdiffDsd, &options())
+/// What the layout of a file is made from, besides the lengths of DST frames.
+pub struct Inputs {
+    toc: Toc,
+    options: OutputOptions,
+    positions: u32,
 }
 
-/// A file of DST sound, a frame for each length.
-pub fn dst(channels: u8, crc: bool, lengths: &[u32]) -> Result<Layout, Error> {
-    let positions = lengths.len() as u32;
-    let toc = toc(channels, positions);
-    let lengths = DstLengths::from_lengths(&toc.areas[0], 0, positions, InvalidDst::Stored, lengths.to_vec())?;
-    Layout::new_dst(&toc, &lengths, &options().with_dsdiff_dst_crc(crc))
-}
+impl Inputs {
+    pub fn new(channels: u8, positions: u32, crc: bool) -> Inputs {
+        let options = OutputOptions::default().with_source_track(SourceTrack::None).with_tags(Tags::Set(TagSet::new()));
+        Inputs { toc: toc(channels, positions), options: options.with_dsdiff_dst_crc(crc), positions }
+    }
 
-fn options() -> OutputOptions {
-    OutputOptions::default().with_source_track(SourceTrack::None).with_tags(Tags::Set(TagSet::new()))
+    /// A file of DSD sound.
+    pub fn dsd(&self) -> Result<Layout, Error> {
+        Layout::new(&self.toc, Slot::TwoChannel, 0, self.positions, Format::DsdiffDsd, &self.options)
+    }
+
+    /// A file of DST sound, a frame for each length.
+    pub fn dst(&self, lengths: Vec<u32>) -> Result<Layout, Error> {
+        let area = &self.toc.areas[0];
+        let lengths = DstLengths::from_lengths(area, 0, self.positions, InvalidDst::Stored, lengths)?;
+        Layout::new_dst(&self.toc, &lengths, &self.options)
+    }
 }
 
 /// A table of contents with one area, of so many frames (up to 255 minutes).

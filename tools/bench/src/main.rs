@@ -1,31 +1,26 @@
-//! Times reads of the sound by this repository's compiled functions and by the original, side by side. README.md says
-//! what the columns mean.
+//! Times builds and reads of whole files by this repository's compiled functions and by the original, side by side.
+//! README.md says what the columns mean.
 
 #![forbid(unsafe_code)]
 
+mod builds;
 mod crc;
+mod file;
+mod parts;
 mod pool;
 mod reads;
 mod sound;
 mod timing;
 
-use std::hint::black_box;
 use std::process::ExitCode;
 
-use library::sound as ours;
+use file::File;
+use pool::{AREAS, CHANNELS, Pool};
+use reads::Reads;
+use sound::{KINDS, Kind, Sound};
+use timing::REPETITIONS;
 
-use pool::{CHANNELS, CONTENT_BYTES, POSITIONS, Pool};
-use reads::{Reads, Times};
-use sound::{Joined, Kind, Read, Sound};
-use timing::{REPETITIONS, best, each, timed};
-
-const SIZES: [usize; 2] = [64 << 10, 4 << 10];
-
-/// Copies and CRCs that are timed together.
-const CALLS: usize = 64;
-
-/// Where the bytes that are copied start in the sound.
-const COPIED_FROM: usize = 1_237;
+const SIZES: [usize; 3] = [4 << 10, 64 << 10, 1 << 20];
 
 fn main() -> ExitCode {
     match run(&Pool::new()) {
@@ -38,96 +33,59 @@ fn main() -> ExitCode {
 }
 
 fn run(pool: &Pool) -> Result<(), String> {
-    println!("{POSITIONS} positions, {CHANNELS} channels; ns, the best of {REPETITIONS} repetitions after a warm-up\n");
-    println!(
-        "{:14}{:>7}  {:10}{:>11}{:>11}{:>8}{:>11}{:>8}{:>11}{:>9}",
-        "sound", "bytes", "place", "original", "ours", "ratio", "positions", "share", "joining", "ratio+j"
+    println!("{CHANNELS} channels; ns, the best of {REPETITIONS} repetitions after a warm-up\n");
+    let file = |kind: Kind, positions: usize| File::new(Sound { kind, positions, pool });
+    let mut files = Vec::new();
+    for kind in KINDS {
+        for positions in AREAS {
+            files.push(file(kind, positions)?);
+        }
+    }
+    print_reads(&files)?;
+    println!();
+    parts::print_calls_head();
+    files.iter().try_for_each(parts::calls)?;
+    println!();
+    parts::copies(&file(Kind::Dsd, AREAS[0])?, &SIZES);
+    println!();
+    parts::crcs(&file(Kind::Dst { crc: true }, AREAS[0])?)?;
+    println!();
+    print_builds(&files);
+    Ok(())
+}
+
+fn print_reads(files: &[File<'_>]) -> Result<(), String> {
+    print!(
+        "{:14}{:>9}{:>9}  {:10}{:>11}{:>11}{:>8}",
+        "sound", "positions", "bytes", "place", "original", "ours", "ratio"
     );
-    for kind in [Kind::Dsd, Kind::Dst { crc: false }, Kind::Dst { crc: true }] {
-        let sound = Sound::new(kind, pool);
+    println!("{:>11}{:>8}{:>11}{:>9}", "query", "share", "joining", "ratio+j");
+    for file in files {
+        let Sound { positions, .. } = file.sound;
+        let name = file.sound.name();
         for bytes in SIZES {
-            for Reads { name, reads } in reads::reads(&sound, bytes) {
-                if !reads::same(&sound, &reads) {
-                    return Err(format!("{}, {bytes} bytes, {name}: the bytes are not the same", sound.name()));
+            for Reads { name: place, reads } in reads::reads(file, bytes) {
+                if !reads::same(file, &reads) {
+                    return Err(format!("{name}, {positions}, {bytes} bytes, {place}: the bytes are not the same"));
                 }
-                print_row(&sound, bytes, name, reads::times(&sound, &reads));
+                let reads::Times { original, ours, query, joining } = reads::times(file, bytes, &reads);
+                let (ratio, share) = (ours / original, 100.0 * query / ours);
+                let with_joining = (ours + joining) / original;
+                print!("{name:14}{positions:>9}{bytes:>9}  {place:10}{original:>11.0}{ours:>11.0}{ratio:>8.2}");
+                println!("{query:>11.0}{share:>7.0}%{joining:>11.0}{with_joining:>9.2}");
             }
         }
     }
-    println!();
-    copies(pool);
-    println!();
-    crcs(pool)
-}
-
-fn print_row(sound: &Sound<'_>, bytes: usize, place: &str, times: Times) {
-    let Times { original, ours, positions, joining } = times;
-    let (ratio, share) = (ours / original, 100.0 * positions / ours);
-    let with_joining = (ours + joining) / original;
-    print!("{:14}{bytes:>7}  {place:10}{original:>11.0}{ours:>11.0}{ratio:>8.2}", sound.name());
-    println!("{positions:>11.0}{share:>7.0}%{joining:>11.0}{with_joining:>9.2}");
-}
-
-/// Our fill of DSD, which is one copy, against a copy of as many bytes from the same place. What a fill of 1 byte takes is the
-/// call and its checks; the rest of a fill is the copying.
-fn copies(pool: &Pool) {
-    println!(
-        "{:>23}{:>11}{:>11}{:>8}{:>11}{:>11}{:>8}",
-        "bytes", "copy", "our fill", "ratio", "of 1 byte", "copying", "ratio"
-    );
-    let sound = Sound::new(Kind::Dsd, pool);
-    let lent = |read: Read| {
-        let mut joined = Joined::default();
-        sound.join(sound.positions(read), &mut joined);
-        joined
-    };
-    let fills = |read: Read, joined: &Joined, out: &mut [u8]| {
-        timed(|| {
-            for _ in 0..CALLS {
-                black_box(sound.fill(black_box(read), joined, out));
-            }
-        })
-    };
-    let small = Read { place: COPIED_FROM as u64, bytes: 1 };
-    let small_lent = lent(small);
-    for bytes in SIZES {
-        let read = Read { bytes, ..small };
-        let joined = lent(read);
-        let mut out = vec![0; bytes];
-        let [copy, fill, one] = best(|| {
-            let copy = timed(|| {
-                for _ in 0..CALLS {
-                    let from = black_box(&joined).contents[COPIED_FROM..].split_at(bytes).0;
-                    black_box(&mut out).copy_from_slice(from);
-                }
-            });
-            [copy, fills(read, &joined, &mut out), fills(small, &small_lent, &mut out[..1])]
-        });
-        let [copy, fill, one] = [copy, fill, one].map(|time| each(time, CALLS));
-        let (ratio, copying) = (fill / copy, fill - one);
-        print!("DSD {bytes:>19}{copy:>11.0}{fill:>11.0}{ratio:>8.2}");
-        println!("{one:>11.0}{copying:>11.0}{:>8.2}", copying / copy);
-    }
-}
-
-/// Our CRC of a frame's content, against a copy of the original's function, and against what the original writes.
-fn crcs(pool: &Pool) -> Result<(), String> {
-    let sound = Sound::new(Kind::Dst { crc: true }, pool);
-    let length = u64::from(pool.lengths[0]);
-    let mut written = [0; 4];
-    sound.original(Read { place: 12 + length + length % 2 + 12, bytes: 4 }, &mut written);
-    let content = pool.content(0);
-    if [crc::crc(content), ours::crc(content)] != [u32::from_be_bytes(written); 2] {
-        return Err("the CRCs are not the same".into());
-    }
-    let [original, ours] = best(|| {
-        let original = timed(|| (0..CALLS).for_each(|_| _ = black_box(crc::crc(black_box(content)))));
-        let ours = timed(|| (0..CALLS).for_each(|_| _ = black_box(ours::crc(black_box(content)))));
-        [original, ours]
-    });
-    let [original, ours] = [each(original, CALLS), each(ours, CALLS)];
-    println!("{:>23}{:>11}{:>11}{:>8}", "bytes", "original*", "ours", "ratio");
-    println!("CRC {CONTENT_BYTES:>19}{original:>11.0}{ours:>11.0}{:>8.2}", ours / original);
-    println!("* a copy of the original's function, which is private");
     Ok(())
+}
+
+fn print_builds(files: &[File<'_>]) {
+    print!("{:14}{:>9}  {:>18}{:>11}{:>11}", "build", "positions", "header and trailer", "original", "ours");
+    println!("{:>8}{:>11}{:>11}{:>9}", "ratio", "sizes", "fresh", "ratio+f");
+    for file in files {
+        let builds::Times { original, ours, sizes, fresh } = builds::times(file.sound);
+        let bytes = file.sound_start() + file.size() - file.sound_end();
+        print!("{:14}{:>9}  {bytes:>18}{original:>11.0}{ours:>11.0}", file.sound.name(), file.sound.positions);
+        println!("{:>8.2}{sizes:>11.0}{fresh:>11.0}{:>9.2}", ours / original, fresh / original);
+    }
 }

@@ -5,7 +5,8 @@ use std::borrow::Cow;
 use original::{Error, PositionSource};
 
 pub const CHANNELS: u8 = 2;
-pub const POSITIONS: usize = 75_000;
+/// Positions of a short area (10 seconds) and of a long one (66 minutes 40 seconds).
+pub const AREAS: [usize; 2] = [750, 300_000];
 pub const CONTENT_BYTES: usize = CHANNELS as usize * 4_704;
 
 /// Frames in memory: position k has the bytes of frame k % FRAMES.
@@ -14,7 +15,7 @@ const SHORTEST: u32 = 2_000;
 const LONGEST: u32 = 9_000;
 
 pub struct Pool {
-    /// The length of each position's DST frame.
+    /// The length of each position's DST frame, for the longest area; a shorter one has the front of them.
     pub lengths: Vec<u32>,
     /// The longest that a DST frame can be, for each frame; a position has the front of it.
     dst: Vec<u8>,
@@ -24,7 +25,7 @@ pub struct Pool {
 impl Pool {
     pub fn new() -> Pool {
         let mut random = Random(20_240_611);
-        let lengths = (0..POSITIONS).map(|_| SHORTEST + random.word() % (LONGEST - SHORTEST + 1)).collect();
+        let lengths = (0..AREAS[1]).map(|_| SHORTEST + random.word() % (LONGEST - SHORTEST + 1)).collect();
         let mut bytes = |count: usize| (0..count).map(|_| random.word() as u8).collect();
         Pool { lengths, dst: bytes(FRAMES * LONGEST as usize), contents: bytes(FRAMES * CONTENT_BYTES) }
     }

@@ -1,56 +1,24 @@
-//! The sound of a file, as both sides read it.
+//! The sound of a file.
 
-use std::hint::black_box;
-use std::ops::Range;
+use crate::pool::Pool;
 
-use original::{Layout, RegionKind};
-
-use crate::pool::{CHANNELS, POSITIONS, Pool};
-use library::sound::{self as ours, Lent};
-
-#[derive(Clone, Copy)]
+#[derive(Clone, Copy, PartialEq)]
 pub enum Kind {
     Dsd,
     Dst { crc: bool },
 }
 
-pub struct Sound<'a> {
-    kind: Kind,
-    pool: &'a Pool,
-    layout: Layout,
-    /// Where the sound starts in the original's file, and its length.
-    offset: u64,
-    pub bytes: u64,
-}
+pub const KINDS: [Kind; 3] = [Kind::Dsd, Kind::Dst { crc: false }, Kind::Dst { crc: true }];
 
-/// A read of so many bytes from a place of the sound.
 #[derive(Clone, Copy)]
-pub struct Read {
-    pub place: u64,
-    pub bytes: usize,
-}
-
-/// What is lent for a read. The lengths need no joining: they are a stretch of all lengths.
-#[derive(Default)]
-pub struct Joined {
-    positions: Range<usize>,
-    frames: Vec<u8>,
-    pub contents: Vec<u8>,
+pub struct Sound<'a> {
+    pub kind: Kind,
+    pub positions: usize,
+    pub pool: &'a Pool,
 }
 
 impl<'a> Sound<'a> {
-    pub fn new(kind: Kind, pool: &'a Pool) -> Sound<'a> {
-        let layout = match kind {
-            Kind::Dsd => original::dsd(CHANNELS, POSITIONS as u32),
-            Kind::Dst { crc } => original::dst(CHANNELS, crc, &pool.lengths),
-        };
-        let layout = layout.expect("a file that the original accepts");
-        let region = layout.regions().iter().find(|region| matches!(region.kind, RegionKind::SoundData));
-        let (offset, bytes) = region.map(|region| (region.offset, region.len)).expect("a file with sound");
-        Sound { kind, pool, layout, offset, bytes }
-    }
-
-    pub fn name(&self) -> &'static str {
+    pub fn name(self) -> &'static str {
         match self.kind {
             Kind::Dsd => "DSD",
             Kind::Dst { crc: false } => "DST",
@@ -58,47 +26,16 @@ impl<'a> Sound<'a> {
         }
     }
 
-    /// The original's read. Answers how many bytes it filled.
-    pub fn original(&self, read: Read, out: &mut [u8]) -> usize {
-        let mut source = self.pool;
-        let filled = self.layout.fill(self.offset + read.place, black_box(out), &mut source);
-        filled.expect("a source without errors")
+    pub fn dst(self) -> bool {
+        self.kind != Kind::Dsd
     }
 
-    /// Our positions.
-    pub fn positions(&self, read: Read) -> Range<usize> {
-        match self.kind {
-            Kind::Dsd => ours::dsd_positions(CHANNELS, POSITIONS as u32, read.place, read.bytes as u64),
-            Kind::Dst { crc } => ours::dst_positions(crc, &self.pool.lengths, read.place, read.bytes as u64),
-        }
+    pub fn crc(self) -> bool {
+        self.kind == Kind::Dst { crc: true }
     }
 
-    /// The caller's part of our read: the frames that it needs, joined.
-    pub fn join(&self, positions: Range<usize>, joined: &mut Joined) {
-        joined.frames.clear();
-        joined.contents.clear();
-        for position in positions.clone() {
-            if let Kind::Dst { .. } = self.kind {
-                joined.frames.extend_from_slice(self.pool.dst(position));
-            }
-            if let Kind::Dsd | Kind::Dst { crc: true } = self.kind {
-                joined.contents.extend_from_slice(self.pool.content(position));
-            }
-        }
-        joined.positions = positions;
-    }
-
-    /// Our read. Answers how many bytes it filled.
-    pub fn fill(&self, read: Read, joined: &Joined, out: &mut [u8]) -> usize {
-        let Joined { positions, frames, contents } = joined;
-        let out = black_box(out);
-        match self.kind {
-            Kind::Dsd => ours::dsd_fill(out, read.place, CHANNELS, POSITIONS as u32, contents),
-            Kind::Dst { crc } => {
-                let lengths = &self.pool.lengths;
-                let lent = Lent { lengths: &lengths[positions.clone()], frames, contents };
-                ours::dst_fill(out, read.place, crc, CHANNELS, lengths, lent)
-            }
-        }
+    /// The lengths of DST frames.
+    pub fn lengths(self) -> &'a [u32] {
+        if self.dst() { &self.pool.lengths[..self.positions] } else { &[] }
     }
 }

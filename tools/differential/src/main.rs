@@ -3,6 +3,7 @@
 
 #![forbid(unsafe_code)]
 
+mod buffer;
 mod builds;
 mod calls;
 mod checks;
@@ -10,6 +11,7 @@ mod chunks;
 mod markers;
 mod original;
 mod random;
+mod reads;
 mod sound;
 mod subject;
 mod text;
@@ -22,7 +24,8 @@ const USAGE: &str = "usage: differential [--seed N] [--count N] [--subject NAME]
 
 struct Arguments {
     seed: u64,
-    count: u64,
+    /// Each subject's own if it is not given.
+    count: Option<u64>,
     /// All if none is named.
     subject: Option<String>,
     /// Nothing is compared then.
@@ -33,25 +36,31 @@ struct Arguments {
 /// Runs a subject's cases of a seed, and answers whether all agreed.
 type Run = fn(&Path, u64, u64) -> Result<bool, String>;
 
-const SUBJECTS: [(&str, Run); 5] = [
-    ("text", subject::run::<text::Text>),
-    ("markers", subject::run::<markers::Markers>),
-    ("sound", subject::run::<sound::Sound>),
-    ("checks", subject::run::<checks::Checks>),
-    ("builds", subject::run::<builds::Builds>),
+/// How many cases there are, unless the arguments say.
+const COUNT: u64 = 20_000;
+
+/// The subjects, each with that number.
+const SUBJECTS: [(&str, Run, u64); 6] = [
+    ("text", subject::run::<text::Text>, COUNT),
+    ("markers", subject::run::<markers::Markers>, COUNT),
+    ("sound", subject::run::<sound::Sound>, COUNT),
+    ("checks", subject::run::<checks::Checks>, COUNT),
+    ("builds", subject::run::<builds::Builds>, COUNT),
+    // A case has a thousand reads and more.
+    ("reads", subject::run::<reads::Reads>, 1_000),
 ];
 
 fn arguments() -> Option<Arguments> {
-    let (mut seed, mut count, mut program) = (20_240_611, 20_000, None);
+    let (mut seed, mut count, mut program) = (20_240_611, None, None);
     let (mut subject, mut record) = (None, None);
     let mut words = env::args().skip(1);
     while let Some(word) = words.next() {
         match word.as_str() {
             "--seed" => seed = words.next()?.parse().ok()?,
-            "--count" => count = words.next()?.parse().ok()?,
+            "--count" => count = Some(words.next()?.parse().ok()?),
             "--subject" => {
                 let name = words.next()?;
-                SUBJECTS.iter().find(|(other, _)| *other == name)?;
+                SUBJECTS.iter().find(|(other, ..)| *other == name)?;
                 subject = Some(name);
             }
             "--record" => record = Some(words.next()?.into()),
@@ -80,13 +89,13 @@ fn main() -> ExitCode {
 /// True if all agreed, or if nothing was to be compared.
 fn run(Arguments { seed, count, subject, record, program }: &Arguments) -> Result<bool, String> {
     if let Some(file) = record {
-        builds::record::record(program, *seed, *count, file)?;
+        builds::record::record(program, *seed, count.unwrap_or(COUNT), file)?;
         return Ok(true);
     }
     let mut agreed = true;
-    for (name, run) in SUBJECTS {
+    for (name, run, usual) in SUBJECTS {
         if subject.as_deref().is_none_or(|subject| subject == name) {
-            agreed &= run(program, *seed, *count)?;
+            agreed &= run(program, *seed, count.unwrap_or(usual))?;
         }
     }
     Ok(agreed)

@@ -74,11 +74,13 @@ impl Answer {
     /// The answers to the reads, in order.
     pub fn reads(&self) -> Result<Vec<Read>, String> {
         self.parts("read", |words| {
-            let [offset, length, digits, "filled", filled] = words.split(' ').collect::<Vec<_>>()[..] else {
-                return None;
+            let (offset, length, digits, filled) = match words.split(' ').collect::<Vec<_>>()[..] {
+                [offset, length, digits, "filled", filled] => (offset, length, digits, Some(filled.parse().ok()?)),
+                [offset, length, digits, "refused", "43", "0", ..] => (offset, length, digits, None),
+                _ => return None,
             };
             let bytes = bytes(length, digits)?;
-            Some(Read { offset: offset.parse().ok()?, bytes, filled: filled.parse().ok()? })
+            Some(Read { offset: offset.parse().ok()?, bytes, filled })
         })
     }
 
@@ -103,11 +105,11 @@ pub struct Query {
     pub positions: Range<usize>,
 }
 
-/// A read of the file: its whole buffer, of which so many bytes are filled.
+/// A read of the file: its whole buffer, of which so many bytes are filled; `None` if it was refused.
 pub struct Read {
     pub offset: u64,
     pub bytes: Vec<u8>,
-    pub filled: u64,
+    pub filled: Option<u64>,
 }
 
 /// The bytes of `LENGTH HEX`.

@@ -21,7 +21,7 @@ pub const ON: u8 = 1;
 pub const OFF: u8 = 2;
 
 /// The single values of a build. Rule, replacement and artist's and title's switch of `info` are not read.
-#[derive(Clone, Copy, Debug)]
+#[derive(Clone, Copy, Debug, Default)]
 pub struct Build {
     pub properties: Properties,
     pub info: Info,

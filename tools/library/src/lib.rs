@@ -4,5 +4,6 @@
 pub mod builds;
 pub mod checks;
 pub mod markers;
+pub mod reads;
 pub mod sound;
 pub mod text;

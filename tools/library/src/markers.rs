@@ -4,14 +4,14 @@
 use crate::text::{Conversion, Switches};
 
 /// Where a file starts, if that is given.
-#[derive(Clone, Copy, Debug, PartialEq)]
+#[derive(Clone, Copy, Debug, Default, PartialEq)]
 pub struct Start {
     pub given: bool,
     pub frame: u32,
 }
 
 /// The numbers of an unspecified layout's channels, if they are given.
-#[derive(Clone, Copy, Debug, PartialEq)]
+#[derive(Clone, Copy, Debug, Default, PartialEq)]
 pub struct ChannelNumbers {
     pub given: bool,
     pub count: u32,
@@ -25,7 +25,7 @@ pub const FIVE_POINT_ONE: u8 = 2;
 pub const UNSPECIFIED: u8 = 3;
 
 /// What PROP tells.
-#[derive(Clone, Copy, Debug, PartialEq)]
+#[derive(Clone, Copy, Debug, Default, PartialEq)]
 pub struct Properties {
     /// FS is 0, CHNL 1, CMPR 2, ABSS 3, LSCO 4 and all above.
     pub order: [u8; 5],
@@ -60,7 +60,7 @@ pub const OF_TRACK: u8 = 1;
 pub const OF_TRACK_THEN_ALBUM: u8 = 2;
 
 /// What DIIN tells.
-#[derive(Clone, Copy, Debug, PartialEq)]
+#[derive(Clone, Copy, Debug, Default, PartialEq)]
 pub struct Info {
     /// EMID is 0, the markers 1, DIAR 2, DITI 3 and all above.
     pub order: [u8; 4],

@@ -9,7 +9,7 @@ pub struct Extent {
 }
 
 /// What becomes of a value that does not pass.
-#[derive(Clone, Copy, Debug, PartialEq)]
+#[derive(Clone, Copy, Debug, Default, PartialEq)]
 pub struct Conversion {
     pub rule: u8,
     pub replacement: u8,
@@ -20,7 +20,7 @@ pub const REMOVE: u8 = 1;
 /// Departure D2: ISO 8859-1, anything else removed.
 pub const D2: u8 = 2;
 
-#[derive(Clone, Copy, Debug, PartialEq)]
+#[derive(Clone, Copy, Debug, Default, PartialEq)]
 pub struct Switches {
     pub empty_text: bool,
     pub text_pad_counted: bool,

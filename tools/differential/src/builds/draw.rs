@@ -21,7 +21,8 @@ pub fn draw(random: &mut Random) -> Case {
     Case::of(build)
 }
 
-fn accepted(random: &mut Random) -> Build {
+/// A build that is accepted.
+pub fn accepted(random: &mut Random) -> Build {
     let wishes = Wishes {
         dst: percent(random, 50),
         edited_master: percent(random, 15),

@@ -12,8 +12,8 @@ use crate::checks::{layout_of, Caller, Case as Build, Comments};
 use crate::markers::draw::{LAST_FRAME, LAYOUTS};
 use crate::markers::MarkerOf;
 
-const DSD: Context = Context { dst: false, edited_master: false };
-const DST: Context = Context { dst: true, edited_master: false };
+pub const DSD: Context = Context { dst: false, edited_master: false };
+pub const DST: Context = Context { dst: true, edited_master: false };
 
 /// Accepted or refused with this number, on both sides.
 fn named(name: &'static str, number: u32, mut build: Build) -> Case {
@@ -22,12 +22,12 @@ fn named(name: &'static str, number: u32, mut build: Build) -> Case {
 }
 
 /// The case with a change.
-fn with(mut build: Build, change: impl FnOnce(&mut Build)) -> Build {
+pub fn with(mut build: Build, change: impl FnOnce(&mut Build)) -> Build {
     change(&mut build);
     build
 }
 
-fn set_range(build: &mut Build, positions: u32) {
+pub fn set_range(build: &mut Build, positions: u32) {
     (build.of.info.playtime, build.of.info.first, build.of.info.end) = (positions, 0, positions);
 }
 
@@ -36,7 +36,7 @@ fn set_start(build: &mut Build, frame: u32) {
     build.of.info.start = build.of.properties.start;
 }
 
-fn set_order(build: &mut Build, names: &[u8]) {
+pub fn set_order(build: &mut Build, names: &[u8]) {
     build.local_order = [SOUND; 5];
     build.local_order[..names.len()].copy_from_slice(names);
     build.local_count = names.len() as u32;
@@ -76,7 +76,7 @@ fn full_info(build: &mut Build) {
 }
 
 /// DIIN without anything in it.
-fn empty_info(build: &mut Build) {
+pub fn empty_info(build: &mut Build) {
     (build.of.info.on, build.of.info.emid) = (true, [0; 3]);
 }
 
@@ -127,7 +127,7 @@ fn figures(cases: &mut Vec<Case>) {
     cases.push(named("channel numbers 5, 5, 1000", 27, numbers));
 }
 
-fn set_layout(build: &mut Build, channels: u8, config: u8) {
+pub fn set_layout(build: &mut Build, channels: u8, config: u8) {
     build.of.config = config;
     (build.of.properties.channels, build.of.properties.layout) = (channels, layout_of(channels, config));
 }

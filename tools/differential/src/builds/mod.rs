@@ -1,9 +1,9 @@
 //! Builds: what stands before and after the sound of a whole file, and how long the sound is; or the refusal.
 
 mod counts;
-mod draw;
+pub mod draw;
 mod figures;
-mod fixed;
+pub mod fixed;
 pub mod record;
 mod rooms;
 

@@ -4,13 +4,11 @@ use library::builds::{self as ours, ANSWERS, HEADER_SHORT, TRAILER_SHORT};
 use library::checks::Verdict;
 
 use super::{File, Outcome};
+use crate::buffer::Buffer;
 use crate::checks::{self, Inputs};
 use crate::hex;
 use crate::random::Random;
 use crate::subject::Disagreement;
-
-/// So many bytes behind what is lent are looked at too.
-const BEHIND: usize = 16;
 
 /// What our calls gave.
 pub struct Held {
@@ -31,32 +29,6 @@ pub struct Calls {
     pub compared: u64,
     /// Bytes that had to stay.
     pub stayed: u64,
-}
-
-/// A buffer that is lent: `room` bytes of a pattern, with more of it behind.
-struct Buffer {
-    bytes: Vec<u8>,
-    room: usize,
-}
-
-/// What place `at` of a buffer holds before a call.
-fn pattern(at: usize) -> u8 {
-    (at as u8).wrapping_mul(29) ^ (at >> 8) as u8 ^ 0xA7
-}
-
-impl Buffer {
-    fn new(room: usize) -> Buffer {
-        Buffer { bytes: (0..room + BEHIND).map(pattern).collect(), room }
-    }
-
-    fn lent(&mut self) -> &mut [u8] {
-        &mut self.bytes[..self.room]
-    }
-
-    /// The first place from `start` on that is not as before.
-    fn touched(&self, start: usize) -> Option<usize> {
-        (start..self.bytes.len()).find(|&at| self.bytes[at] != pattern(at))
-    }
 }
 
 /// How long the buffers are.

@@ -56,7 +56,7 @@ fn draw_length(random: &mut Random, longest: u32) -> u32 {
     }
 }
 
-fn draw_content(random: &mut Random) -> Content {
+pub fn draw_content(random: &mut Random) -> Content {
     let bytes = |random: &mut Random| {
         let length = random.between(0, 8);
         (0..length).map(|_| random.between(0, 255) as u8).collect::<Vec<u8>>()

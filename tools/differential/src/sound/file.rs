@@ -171,13 +171,18 @@ impl File {
                 }
             }
         }
-        lines.extend(self.contents.iter().map(|(position, content)| {
+        lines.extend(self.content_lines());
+        lines
+    }
+
+    /// The contents that are not the rule's, in that language.
+    pub fn content_lines(&self) -> impl Iterator<Item = String> + '_ {
+        self.contents.iter().map(|(position, content)| {
             let Content { front, fill, back } = content;
             let rest = self.content_bytes() - front.len() - back.len();
             let parts = [hex(front), format!("{fill:02x}*{rest}"), hex(back)];
             format!("content {position} {}", parts.join("+"))
-        }));
-        lines
+        })
     }
 
     /// Byte `j` of position `k` is seed + 7k + 31j + j/256, unless the position has bytes of its own.

@@ -1,9 +1,9 @@
 //! Sound: reads of it and the positions that they need, the DST chunk's head, the data of DSTI, and CRCs.
 
 mod counts;
-mod draw;
-mod file;
-mod lent;
+pub mod draw;
+pub mod file;
+pub mod lent;
 mod simplify;
 
 use std::ops::Range;
@@ -161,8 +161,8 @@ fn answered_queries(answer: &Answer, asked: &[Window]) -> Result<Vec<Range<usize
 /// The bytes of each read, which must be those that were asked, and filled.
 fn answered_reads(answer: &Answer, asked: &[Window]) -> Result<Vec<Vec<u8>>, String> {
     let reads = answer.reads()?;
-    let whole = |read: &original::Read| Window { place: read.offset, length: read.filled };
-    if !reads.iter().map(whole).eq(asked.iter().copied()) {
+    let whole = |read: &original::Read| read.filled.map(|length| Window { place: read.offset, length });
+    if !reads.iter().map(whole).eq(asked.iter().copied().map(Some)) {
         return Err("the original answered other reads, or filled less".into());
     }
     Ok(reads.into_iter().map(|read| read.bytes).collect())

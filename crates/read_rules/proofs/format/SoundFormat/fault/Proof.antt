@@ -1,5 +1,4 @@
 -- `SoundFormat::fault` meets its contract. Assumes nothing.
-use borrow.Author.Needs.{needs}
 use Rattle.read_rules.specs.Fault.{formatFault}
 use Rattle.read_rules.proofs.format.SoundFormat.fault.Statement.{statement}
 use Rattle.read_rules.proofs.format.SoundFormat.fault.Tie as tie
