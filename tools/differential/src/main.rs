@@ -8,6 +8,7 @@ mod builds;
 mod calls;
 mod checks;
 mod chunks;
+mod lines;
 mod markers;
 mod original;
 mod random;

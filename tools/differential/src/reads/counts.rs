@@ -6,10 +6,8 @@ use std::ops::Range;
 use super::file::{File, Map, Place};
 use super::refused::{way_name, Fault, ALL_WAYS, FAULTS};
 use super::{Case, Read, Window, Windows};
+use crate::lines::{sum, Line, Table};
 use crate::sound::file::Part;
-
-/// A count for DSD, for DST and for DST with CRCs.
-type Line = [u64; 3];
 
 #[derive(Default)]
 pub struct Counts {
@@ -68,14 +66,6 @@ const SPOILT: [&str; 3] = ["fills", "refuses, nothing written", "refuses, part w
 
 fn add(line: &mut Line, file: &File, number: u64) {
     line[usize::from(file.sound.is_dst()) + usize::from(file.sound.crc())] += number;
-}
-
-fn sum(lines: &[Line]) -> Line {
-    let mut all = Line::default();
-    for line in lines {
-        all.iter_mut().zip(line).for_each(|(all, number)| *all += number);
-    }
-    all
 }
 
 /// What can be said of a file.
@@ -193,17 +183,12 @@ impl Counts {
 
 impl fmt::Display for Counts {
     fn fmt(&self, f: &mut fmt::Formatter<'_>) -> fmt::Result {
-        let titles = ["DSD", "DST", "DST with CRCs", "all"].map(|title| format!("{title:>14}"));
-        writeln!(f, "{:38}{}", "", titles.concat())?;
-        let mut write = |name: &str, line: &Line| {
-            let numbers = line.map(|number| format!("{number:>14}"));
-            writeln!(f, "{name:38}{}{:>14}", numbers.concat(), line.iter().sum::<u64>())
-        };
-        write("builds, drawn", &self.builds[0])?;
+        let mut table = Table::new(f, 38)?;
+        table.line("builds, drawn", &self.builds[0])?;
         for (name, line) in &self.facts {
-            write(&format!("  {name}"), line)?;
+            table.line(&format!("  {name}"), line)?;
         }
-        for (name, line) in [
+        table.lines(&[
             ("builds, fixed", &self.builds[1]),
             ("  of them read exhaustively", &self.exhausted),
             ("  reads (and queries) of these", &self.exhausting),
@@ -219,39 +204,35 @@ impl fmt::Display for Counts {
             ("  from the header past the sound", &self.joined),
             ("  of several positions", &self.several),
             ("  of an empty buffer", &self.empty),
-        ] {
-            write(name, line)?;
-        }
+        ])?;
         for (byte, lines) in [("begin", &self.from), ("end", &self.to)] {
             for ((_, place), line) in PLACES.iter().zip(lines) {
-                write(&format!("  {byte} in {place}"), line)?;
+                table.line(&format!("  {byte} in {place}"), line)?;
             }
         }
-        write("reads refused with 43, lent with", &sum(&self.wrongly_lent))?;
+        table.line("reads refused with 43, lent with", &sum(&self.wrongly_lent))?;
         for (way, line) in self.wrongly_lent.iter().enumerate() {
-            write(&format!("  {}", way_name(way)), line)?;
+            table.line(&format!("  {}", way_name(way)), line)?;
         }
-        write("reads refused with 43, spoilt", &sum(&self.spoilt))?;
+        table.line("reads refused with 43, spoilt", &sum(&self.spoilt))?;
         for (name, line) in SPOILT.iter().zip(&self.spoilt) {
-            write(&format!("  the original {name}"), line)?;
+            table.line(&format!("  the original {name}"), line)?;
         }
         for (title, of) in [("refused with 42, for", &self.no_file), ("accepted, at a limit of", &self.at_limit)] {
             for (word, lines) in ["queries", "reads"].into_iter().zip(of) {
-                write(&format!("{word} {title}"), &sum(lines))?;
+                table.line(&format!("{word} {title}"), &sum(lines))?;
                 // Only a query can be told the length of a part.
                 for (name, line) in FAULTS.iter().zip(lines).filter(|(_, line)| **line != Line::default()) {
-                    write(&format!("  {name}"), line)?;
+                    table.line(&format!("  {name}"), line)?;
                 }
             }
         }
-        for (name, line) in [
+        table.lines(&[
             ("lists of reads that cover a file", &self.lists),
             ("  reads in them", &self.list_reads),
             ("  refused reads between", &self.list_refused),
             ("  bytes gathered", &self.list_bytes),
-        ] {
-            write(name, line)?;
-        }
+        ])?;
         writeln!(f, "most positions of a read: {}; longest read: {} bytes", self.most_positions, self.longest_read)?;
         writeln!(f, "builds refused on both sides: {}", self.refused_builds)
     }

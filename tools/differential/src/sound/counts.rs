@@ -6,9 +6,7 @@ use std::ops::Range;
 use super::file::{Index, Part};
 use super::lent::WAYS;
 use super::{Case, Window};
-
-/// A count for DSD, for DST and for DST with CRCs.
-type Line = [u64; 3];
+use crate::lines::{sum, Line, Table};
 
 #[derive(Default)]
 pub struct Counts {
@@ -99,13 +97,8 @@ impl Counts {
 
 impl fmt::Display for Counts {
     fn fmt(&self, f: &mut fmt::Formatter<'_>) -> fmt::Result {
-        let titles = ["DSD", "DST", "DST with CRCs", "all"].map(|title| format!("{title:>14}"));
-        writeln!(f, "{:34}{}", "", titles.concat())?;
-        let mut write = |name: &str, line: &Line| {
-            let numbers = line.map(|number| format!("{number:>14}"));
-            writeln!(f, "{name:34}{}{:>14}", numbers.concat(), line.iter().sum::<u64>())
-        };
-        for (name, line) in [
+        let mut table = Table::new(f, 34)?;
+        table.lines(&[
             ("cases, drawn", &self.cases[0]),
             ("cases, fixed", &self.cases[1]),
             ("DST heads", &self.heads),
@@ -122,21 +115,15 @@ impl fmt::Display for Counts {
             ("  of nothing in the sound", &self.nothing),
             ("  of the whole sound", &self.whole),
             ("  of several positions", &self.several),
-        ] {
-            write(name, line)?;
-        }
+        ])?;
         for (byte, lines) in [("first", &self.first_byte), ("last", &self.last_byte)] {
             for ((_, part), line) in PARTS.iter().zip(lines) {
-                write(&format!("  {byte} byte in {part}"), line)?;
+                table.line(&format!("  {byte} byte in {part}"), line)?;
             }
         }
-        let mut all = Line::default();
-        for line in &self.wrongly_lent {
-            all.iter_mut().zip(line).for_each(|(all, number)| *all += number);
-        }
-        write("reads wrongly lent", &all)?;
+        table.line("reads wrongly lent", &sum(&self.wrongly_lent))?;
         for ((name, _), line) in WAYS.iter().zip(&self.wrongly_lent) {
-            write(&format!("  {name}"), line)?;
+            table.line(&format!("  {name}"), line)?;
         }
         writeln!(f, "most positions of a read: {}; longest read: {} bytes", self.most_positions, self.longest_read)
     }
