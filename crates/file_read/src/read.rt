@@ -1,5 +1,4 @@
 // The read of a whole file. All is tested before the first byte is written: the sound, whose writer tests what is lent, comes before the header.
-ghost use Prim.Native.Nat.{_-_};
 ghost use lib.ListN.{length};
 ghost use Rattle.sound_reads.specs.Fill.{Filling};
 ghost use Rattle.sound_reads.specs.Lent.{neededAt};

@@ -84,7 +84,7 @@ module _ (b : AcceptedBuild) (fs : List Frame) (recorded : Recorded (b .inputs) 
       covers = λ p. gather-reads (fileBytes b fs) (readsOf cs) p (faithful b fs recorded cs given);
       gets = λ all s holds known knows. subst (λ (t : List ℕ). Gets known x fs t) (is-file all s holds) (gets-file known knows);
       whole = whole;
-      leads = λ dst i none h. index-leads x ok (b .promise .orders) dst fs (dst-lengths (x .area .sound) dst (recorded .fits)) i none h;
+      leads = λ dst i unused h. index-leads x ok (b .promise .orders) dst fs (dst-lengths (x .area .sound) dst (recorded .fits)) i unused h;
     }
 
 -- DEMAND 3

@@ -34,8 +34,8 @@ gathered cs = gather nothing (readsOf cs)
 abbrev pub entryPlace : Inputs → ℕ → ℕ
 entryPlace x i = num (take 8 (drop (12 * i) (indexOf (parts x) (place x)))) - shiftOf (x .options .«dst_index_offset»)
 
--- What an old reader that knows some names gets of a file s. (b) It reads s to its last byte (c) and reports exactly the known chunks that 01's rules make of inputs and frames,
--- in file order; among them, each once, the channels, the compression and every frame that were given; and the index, if it knows it and there is one.
+-- What an old reader that knows some names gets of a file s: (b) its reports are exactly the known chunks that 01's rules make of inputs and frames, in file order, and (c) its
+-- walk ends on the last byte. Among the reports stand, each once, the channels, the compression and every frame that were given; and the index, if it knows it and there is one.
 pub record Gets (known : Name → Name → Bool) (x : Inputs) (fs : List Frame) (s : List ℕ) : Type 0 where
   pub reports : read (dsdiff known) s ≡ some (record { reports = told known x fs; end = length s })
   pub recording : Recording x fs (told known x fs)
@@ -50,8 +50,8 @@ pub record OldReaders (b : AcceptedBuild) (fs : List Frame) (cs : List Call) : T
   -- there is such a list: the file
   pub whole : ((p : ℕ) → p < length (fileBytes b fs) → IsSome (gathered cs p)) → Holds (gathered cs) (fileBytes b fs)
   -- (d) entry i of a DST build's index leads to frame i's DSTF
-  pub leads : b .inputs .area .sound ≡ Dst → (i : ℕ) (none : Frame) → i < length fs
-      → Stands (fileBytes b fs) (entryPlace (b .inputs) i) (chunk (ascii "DSTF") (getD fs i none .code))
+  pub leads : b .inputs .area .sound ≡ Dst → (i : ℕ) (unused : Frame) → i < length fs
+      → Stands (fileBytes b fs) (entryPlace (b .inputs) i) (chunk (ascii "DSTF") (getD fs i unused .code))
 
 -- THE STATEMENT: of every accepted build, all frames of the lengths that it was given, and every list of calls
 abbrev pub EveryListOfReads : Type 0
