@@ -2,7 +2,7 @@
 use mathlib.Core.Path.{_≡_, refl, ap}
 use mathlib.Core.Bool.{Bool, true, false, cond}
 use mathlib.Core.List.{List, [], _∷_, _++_, map}
-use Prim.Native.Nat.{ℕ, zero, suc, _+_, _-_, _*_, _/_, _^_, _≤_, _<_, min}
+use Prim.Native.Nat.{ℕ, zero, suc, _+_, _*_, _/_, _^_, _≤_, _<_, min}
 use native.Mathlib.Nat.{mul-le-mul}
 use native.Mathlib.Numerals.{add-one}
 use native.Mathlib.Omega.{arith}
@@ -124,27 +124,27 @@ module _ (x : Inputs) (ok : verdict x ≡ Accepted) (sized : Ordered x) where
           omega (arith, most)
       go Dst = omega (arith, sum-low (x .options .«dst_crc») (x .lengths) (λ k h. accepted.lengths-bound x ok k h .1), lengths-few)
 
-  comments-low : length (comt (x .pool) (x .comments) (info (parts x) .text)) ≤ 2 ^ 50
+  comments-low : length (comt (x .pool) (x .comments) (info (parts x) .text)) ≤ 2 ^ 36
   unfolding comt
   comments-low = go (hasComt cs) refl
     where
       cs : List Written
       cs = writtenComments (x .pool) (x .comments) (info (parts x) .text)
 
-      fits : Fits cs
-      fits = comments-fit (x .pool) (info (parts x) .text) (x .comments) (λ k h. omega (arith, accepted.comments-fit x ok .short k h))
+      fits : Fits 65_536 cs
+      fits = comments-fit (x .pool) (info (parts x) .text) 65_536 (x .comments) (λ k h. omega (arith, accepted.comments-fit x ok .short k h))
 
-      go : (b : Bool) → hasComt cs ≡ b → length (cond b (chunk (ascii "COMT") (comtData cs)) []) ≤ 2 ^ 50
+      go : (b : Bool) → hasComt cs ≡ b → length (cond b (chunk (ascii "COMT") (comtData cs)) []) ≤ 2 ^ 36
       go true e =
           let size = length-comtData 0 cs in
-          omega (arith, chunk-low true (ascii "COMT") (comtData cs) (2 ^ 49) refl (omega (arith, size, comtData-short cs fits e 0)))
+          omega (arith, chunk-low true (ascii "COMT") (comtData cs) (2 ^ 33) refl (omega (arith, size, comtData-short 65_536 cs fits e 0)))
       go false e = omega arith
 
-  diin-short : length (bytes (diin (x .pool) (x .raw) (x .tracks) (x .markers) (info (parts x)) (x .infoOrder))) ≤ 2 ^ 50
+  diin-short : length (bytes (diin (x .pool) (x .raw) (x .tracks) (x .markers) (info (parts x)) (x .infoOrder))) ≤ 2 ^ 36
   unfolding diin
   diin-short = go (hasDiin (x .pool) (x .raw) (x .tracks) (x .markers) (info (parts x)) (x .infoOrder))
     where
-      go : (b : Bool) → length (bytes (cond b (node (ascii "DIIN") [] (infoChunks (x .pool) (x .raw) (x .tracks) (x .markers) (info (parts x)) (x .infoOrder)) stop) stop)) ≤ 2 ^ 50
+      go : (b : Bool) → length (bytes (cond b (node (ascii "DIIN") [] (infoChunks (x .pool) (x .raw) (x .tracks) (x .markers) (info (parts x)) (x .infoOrder)) stop) stop)) ≤ 2 ^ 36
       go true =
           rw bytes-node
           (omega (
@@ -155,7 +155,7 @@ module _ (x : Inputs) (ok : verdict x ≡ Accepted) (sized : Ordered x) where
       go false = rw bytes-stop (omega arith)
 
   module _ (base : ℕ) where
-    local-low : (c : LocalChunk) → length (localBytes (parts x) base c) ≤ 2 ^ 50
+    local-low : (c : LocalChunk) → length (localBytes (parts x) base c) ≤ 2 ^ 36
     unfolding localBytes property
     local-low Property =
         rw bytes-node
@@ -167,14 +167,14 @@ module _ (x : Inputs) (ok : verdict x ≡ Accepted) (sized : Ordered x) where
     local-low SoundData = omega arith
     local-low DstIndex = go (hasIndex (parts x))
       where
-        go : (b : Bool) → length (cond b (dsti (x .options .«dst_crc») (firstOffset (parts x) base) (x .lengths)) []) ≤ 2 ^ 50
+        go : (b : Bool) → length (cond b (dsti (x .options .«dst_crc») (firstOffset (parts x) base) (x .lengths)) []) ≤ 2 ^ 36
         go true = rw (length-dsti) (omega (arith, lengths-few))
         go false = omega arith
     local-low EditedMasterInfo = diin-short
     local-low Comments = comments-low
 
-    locals-low : (cs : List LocalChunk) → length cs ≤ 5 → length (localsBytes (parts x) base cs) ≤ 2 ^ 53
-    locals-low cs few = omega (arith, flatMap-bound (localBytes (parts x) base) (2 ^ 50) local-low cs, few)
+    locals-low : (cs : List LocalChunk) → length cs ≤ 5 → length (localsBytes (parts x) base cs) ≤ 5 * 2 ^ 36
+    locals-low cs few = omega (arith, flatMap-bound (localBytes (parts x) base) (2 ^ 36) local-low cs, few)
 
     given-few : length (given x) ≤ 5
     given-few = rw (length-take (min (x .localCount) 5) (x .localOrder)) (omega arith)
@@ -184,7 +184,7 @@ module _ (x : Inputs) (ok : verdict x ≡ Accepted) (sized : Ordered x) where
     head-low Dsd = rw (length-append, length-be) (omega arith)
     head-low Dst = rw length-head (omega arith)
 
-    pub front-low : length (frontOf x base) < 2 ^ 54
+    pub front-low : length (frontOf x base) < 2 ^ 39
     unfolding front occupied
     front-low =
         rw (length-append, length-append, length-append, length-chunk (ascii "FVER") version refl, length-be)
@@ -204,7 +204,7 @@ module _ (x : Inputs) (ok : verdict x ≡ Accepted) (sized : Ordered x) where
         rw (← add-one i, callers-next (x .raw) (x .callers) i more, length-append)
         (omega (arith, callers-some i (omega arith), caller-low (take 3 (drop (i * 3) (x .callers))) (accepted.callers-fit x ok .short i more)))
 
-    pub back-low : length (backOf x base) < 2 ^ 54
+    pub back-low : length (backOf x base) < 2 ^ 39
     unfolding back
     back-low =
         let n = length (x .callers) / 3 in

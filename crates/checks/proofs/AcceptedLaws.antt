@@ -151,8 +151,11 @@ module _ (x : Inputs) (ok : verdict x ≡ Accepted) where
   pub playtime-bound : x .area .playtime ≤ longestPlaytime
   playtime-bound = ltb-false longestPlaytime (x .area .playtime) (area-tests .0)
 
+  pub channels-right : (ltb (x .area .channels) 1 || ltb 6 (x .area .channels)) ≡ false
+  channels-right = area-tests .1
+
   pub channels-bound : (1 ≤ x .area .channels) × (x .area .channels ≤ 6)
-  channels-bound = inside 1 6 (x .area .channels) (area-tests .1)
+  channels-bound = inside 1 6 (x .area .channels) channels-right
 
   -- a layout names as many channels as there are
   pub channels-named : channelCount (x .area .layout) (x .area .channels) ≡ x .area .channels
@@ -168,10 +171,13 @@ module _ (x : Inputs) (ok : verdict x ≡ Accepted) where
   pub lengths-number : length (x .lengths) ≡ lengthsWanted (x .area)
   lengths-number = not-not (neither turned _ (lengths-tests .0) .1)
 
+  pub lengths-right : lengthsWrong (x .lengths) ≡ false
+  lengths-right = lengths-tests .1
+
   pub lengths-bound : (k : ℕ) → k < length (x .lengths) → (1 ≤ getD (x .lengths) k 0) × (getD (x .lengths) k 0 ≤ 65_536)
   unfolding lengthsWrong
   lengths-bound k h =
-      inside 1 65_536 (getD (x .lengths) k 0) (none-so (λ i. lengthWrong (getD (x .lengths) i 0)) (length (x .lengths)) (lengths-tests .1) k h)
+      inside 1 65_536 (getD (x .lengths) k 0) (none-so (λ i. lengthWrong (getD (x .lengths) i 0)) (length (x .lengths)) lengths-right k h)
 
   -- 11 and 12: the range has positions, within the playtime
   pub range-inside : (x .area .first < x .area .end) × (x .area .end ≤ x .area .playtime)

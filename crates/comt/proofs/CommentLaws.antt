@@ -3,6 +3,7 @@ use mathlib.Core.Path.{_≡_, sym, _∙_}
 use mathlib.Core.Bool.{Bool, true, false, cond, true≢false, and-false}
 use mathlib.Core.List.{List, [], _∷_, _++_, flatMap}
 use Prim.Native.Nat.{ℕ, zero, suc, _+_, _-_, _*_, _/_, _^_, _≤_, _<_}
+use native.Mathlib.Nat.{mul-suc, mul-le-mul-left}
 use native.Mathlib.Numerals.{add-one}
 use native.Mathlib.Decide.{decLe}
 use native.Mathlib.Omega.{arith}
@@ -29,17 +30,17 @@ pub length-commentHead : (c : Comment) → length (commentHead c) ≡ 10
 unfolding commentHead
 length-commentHead c = simp (length-append, length-be)
 
--- comments with 10 bytes before a text that its count can tell
-abbrev pub Fits : List Written → Type 0
-Fits [] = Unit {0}
-Fits (c ∷ cs) = (length (c .head) ≡ 10) × (length (c .text) < 256 ^ 4) × Fits cs
+-- comments with 10 bytes before a text of fewer than n bytes
+abbrev pub Fits : ℕ → List Written → Type 0
+Fits n [] = Unit {0}
+Fits n (c ∷ cs) = (length (c .head) ≡ 10) × (length (c .text) < n) × Fits n cs
 
--- such comments have room for a text of fewer than 2 ^ 32 bytes, 14 bytes before it and a pad
-comments-room : (cs : List Written) → Fits cs → length (flatMap commentBytes cs) ≤ (15 + 2 ^ 32) * length cs
+-- such comments have room for 14 bytes, a text and a pad
+comments-room : (n : ℕ) (cs : List Written) → Fits n cs → length (flatMap commentBytes cs) ≤ (14 + n) * length cs
 unfolding flatMap commentBytes
-comments-room [] fits = omega arith
-comments-room (c ∷ cs) fits =
-    simp (length-append, length-counts, length-pad) (omega (arith, fits .0, fits .1, comments-room cs (fits .2)))
+comments-room n [] fits = omega arith
+comments-room n (c ∷ cs) fits =
+    simp (length-append, length-counts, length-pad) (omega (arith, fits .0, fits .1, comments-room n cs (fits .2), mul-suc (14 + n) (length cs)))
 
 -- row i is whole
 pub row-whole : (words : List ℕ) (i : ℕ) → i < length words / 9 → length (take (i * 9 + 9 - i * 9) (drop (i * 9) words)) ≡ 9
@@ -78,30 +79,32 @@ module _ (pool : List ℕ) (o : TextOptions) where
   pub comments-few : (words : List ℕ) (i : ℕ) → length (firstComments words i) ≤ i
   comments-few words i = omega (arith, flatMap-bound ofRow 1 one (take i (rows 9 words)), length-take i (rows 9 words))
 
-  -- a comment whose text has a length below 2 ^ 32, before others
-  row-fits : (row : List ℕ) (cs : List Written) → getD row 8 0 < 2 ^ 32 → Fits cs → Fits (ofRow row ++ cs)
-  unfolding writtenComment asWritten commentOf
-  row-fits row cs u32 fits = go (isWritten o (length (asWritten pool o (commentOf row) .text)))
-    where
-      go : (b : Bool) → Fits (cond b (asWritten pool o (commentOf row) ∷ []) [] ++ cs)
-      go true = (length-commentHead (commentOf row), omega (arith, extent-short (o .rule) pool (commentOf row .text)), fits)
-      go false = fits
+  module _ (n : ℕ) where
+    -- a comment whose text has a length below n, before others
+    row-fits : (row : List ℕ) (cs : List Written) → getD row 8 0 < n → Fits n cs → Fits n (ofRow row ++ cs)
+    unfolding writtenComment asWritten commentOf
+    row-fits row cs short fits = go (isWritten o (length (asWritten pool o (commentOf row) .text)))
+      where
+        go : (b : Bool) → Fits n (cond b (asWritten pool o (commentOf row) ∷ []) [] ++ cs)
+        go true = (length-commentHead (commentOf row), omega (arith, extent-short (o .rule) pool (commentOf row .text)), fits)
+        go false = fits
 
-  rows-fit : (n : ℕ) (words : List ℕ) → ((k : ℕ) → k < n → getD (take 9 (drop (k * 9) words)) 8 0 < 2 ^ 32) → Fits (flatMap ofRow (firstRows 9 n words))
-  unfolding firstRows flatMap
-  rows-fit zero words h = tt
-  rows-fit (suc n) words h =
-      row-fits (take 9 words) _ (h 0 (omega arith))
-      (rows-fit n (drop 9 words) (λ k l. let next : suc k * 9 ≡ 9 + k * 9 = omega arith in rw drop-drop (rw next at (h (suc k) (omega arith)))))
+    rows-fit : (i : ℕ) (words : List ℕ) → ((k : ℕ) → k < i → getD (take 9 (drop (k * 9) words)) 8 0 < n) → Fits n (flatMap ofRow (firstRows 9 i words))
+    unfolding firstRows flatMap
+    rows-fit zero words h = tt
+    rows-fit (suc i) words h =
+        row-fits (take 9 words) _ (h 0 (omega arith))
+        (rows-fit i (drop 9 words) (λ k l. let next : suc k * 9 ≡ 9 + k * 9 = omega arith in rw drop-drop (rw next at (h (suc k) (omega arith)))))
 
-  -- the comments of rows whose texts have lengths below 2 ^ 32
-  pub comments-fit : (words : List ℕ) → ((k : ℕ) → k < length words / 9 → getD (take 9 (drop (k * 9) words)) 8 0 < 2 ^ 32) → Fits (writtenComments pool words o)
-  unfolding writtenComments rows
-  comments-fit words h = rows-fit (length words / 9) words h
+    -- the comments of rows whose texts have lengths below n
+    pub comments-fit : (words : List ℕ) → ((k : ℕ) → k < length words / 9 → getD (take 9 (drop (k * 9) words)) 8 0 < n) → Fits n (writtenComments pool words o)
+    unfolding writtenComments rows
+    comments-fit words h = rows-fit (length words / 9) words h
 
   -- and so of words that are u32
-  pub words-fit : (words : List ℕ) → ((k : ℕ) → getD words k 0 < 2 ^ 32) → Fits (writtenComments pool words o)
-  words-fit words u32 = comments-fit words (λ k l. rw (getD-take 9 (drop (k * 9) words) 8 0 (omega arith), getD-drop (k * 9) words 8 0) (u32 (k * 9 + 8)))
+  pub words-fit : (words : List ℕ) → ((k : ℕ) → getD words k 0 < 2 ^ 32) → Fits (2 ^ 32) (writtenComments pool words o)
+  words-fit words u32 =
+      comments-fit (2 ^ 32) words (λ k l. rw (getD-take 9 (drop (k * 9) words) 8 0 (omega arith), getD-drop (k * 9) words 8 0) (u32 (k * 9 + 8)))
 
 -- a COMT has no more comments than its count can tell
 pub comt-count : (cs : List Written) → hasComt cs ≡ true → length cs ≤ 65_535
@@ -117,8 +120,11 @@ pub length-comtData : (k : ℕ) (cs : List Written) → length (comtData cs) ≡
 unfolding comtData
 length-comtData k cs = simp (length-append, length-be)
 
-pub comtData-short : (cs : List Written) → Fits cs → hasComt cs ≡ true → (k : ℕ) → length (be 2 k ++ flatMap commentBytes cs) < 2 ^ 49
-comtData-short cs fits has k = rw (length-append, length-be) (omega (arith, comments-room cs fits, comt-count cs has))
+-- the data of comments with texts of fewer than n bytes
+pub comtData-short : (n : ℕ) (cs : List Written) → Fits n cs → hasComt cs ≡ true → (k : ℕ)
+    → length (be 2 k ++ flatMap commentBytes cs) ≤ 2 + (14 + n) * 65_535
+comtData-short n cs fits has k =
+    rw (length-append, length-be) (omega (arith, comments-room n cs fits, mul-le-mul-left (14 + n) (comt-count cs has)))
 
 -- COMT as chunks of a tree is COMT
 pub comt-tree : (pool words : List ℕ) (o : TextOptions) → bytes (comtChunk pool words o) ≡ comt pool words o

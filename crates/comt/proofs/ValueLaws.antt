@@ -18,7 +18,7 @@ use Rattle.texts.specs.declared.text.TextOptions.{TextOptions}
 use Rattle.comt.proofs.CommentLaws.{Fits, words-fit, comt-count}
 
 -- comments
-comments-plain : (cs : List Written) → Fits cs → comments (length cs) (flatMap commentBytes cs) ≡ flatMap (λ c. counts 4 (c .head) (c .text)) cs
+comments-plain : (cs : List Written) → Fits (256 ^ 4) cs → comments (length cs) (flatMap commentBytes cs) ≡ flatMap (λ c. counts 4 (c .head) (c .text)) cs
 unfolding comments commentBytes flatMap
 comments-plain [] w = refl
 comments-plain (c ∷ cs) w =
@@ -37,7 +37,7 @@ comments-plain (c ∷ cs) w =
     )
 
 -- COMT, with the pads in the data and without them
-pub comt-plain : (cs : List Written) → length cs < 256 ^ 2 → Fits cs → value (ascii "FRM8") (ascii "COMT") (comtData cs) ≡ comtValue cs
+pub comt-plain : (cs : List Written) → length cs < 256 ^ 2 → Fits (256 ^ 4) cs → value (ascii "FRM8") (ascii "COMT") (comtData cs) ≡ comtValue cs
 unfolding value comtData comtValue same
 comt-plain cs small fits =
     let count = be 2 (length cs) in

@@ -34,7 +34,7 @@ module _ (channels : ℕ) (xs : List (List ℕ)) (even : map (λ (c : List ℕ).
   wants-known = wanted-known (frameBytes channels) (length xs) [] w out
 
   -- what is lent has the length that it should
-  lent-even : frameBytes channels * number wants ≡ length (dsdSound (between wants xs))
+  pub lent-even : frameBytes channels * number wants ≡ length (dsdSound (between wants xs))
   unfolding dsdSound
   lent-even =
       let f = frameBytes channels in

@@ -94,7 +94,8 @@ module _ (crc : Bool) (channels : ℕ) (fs : List Frame) (plain : Plain crc chan
   plain-some : Plain crc channels some
   plain-some = plain-between crc channels fs needs plain
 
-  given : isLent (plainBytes crc channels) (between needs (lengths fs)) (lengths some) (codes some) (contents crc some) ≡ true
+  -- what is lent has the lengths that it should
+  pub given : isLent (plainBytes crc channels) (between needs (lengths fs)) (lengths some) (codes some) (contents crc some) ≡ true
   given = rw (← lengths-some) (lent-given crc channels some plain-some)
 
   -- what a read shows of the sound that has the needed frames is what it shows of the file's

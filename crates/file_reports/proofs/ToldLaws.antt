@@ -2,7 +2,7 @@
 use mathlib.Core.Path.{_≡_, refl}
 use mathlib.Core.Bool.{Bool}
 use mathlib.Core.List.{List, []}
-use Prim.Native.Nat.{ℕ}
+use Prim.Native.Nat.{ℕ, _^_}
 use native.Mathlib.Omega.{arith}
 use lib.ListN.{getD}
 use Rattle.cursor.specs.Number.{be}
@@ -72,7 +72,7 @@ module _ (x : Inputs) (ok : verdict x ≡ Accepted) (known : Name → Name → B
   local-tells Comments =
       let text = info (parts x) .text in
       let cs = writtenComments (x .pool) (x .comments) text in
-      let fits = comments-fit (x .pool) text (x .comments) (λ k h. omega (arith, accepted.comments-fit x ok .short k h)) in
+      let fits = comments-fit (x .pool) text (256 ^ 4) (x .comments) (λ k h. omega (arith, accepted.comments-fit x ok .short k h)) in
       if-tells (hasComt cs) (λ has. leaf-tells (comt-plain cs (omega (arith, comt-count cs has)) fits) stop-tells)
 
   file-tells : Tells known [] (fileOf x fs) (fileTold x fs)

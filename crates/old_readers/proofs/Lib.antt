@@ -1,4 +1,6 @@
 pub mod FilledLaws
+pub mod KnownLaws
 pub mod RealLaws
 pub mod FaithfulLaws
 pub mod OldReadersProof
+pub mod RightReadsProof

@@ -50,7 +50,7 @@ returns-2 c =
     let fits = words-fit (now (start .args .pool)) o (now (start .args .rows)) (λ k. omega (arith, rows .shared-slice-known2 .given k)) in
     rw has
     (chunked (ascii "COMT") (c₀ .comt-data .result .end .at)
-    (length-comtData 0 cs ∙ measured {bs = be 2 0 ++ flatMap commentBytes cs} (rw (c₀ .before .before .new .ensures) at (c₀ .comt-data .ensures .0)) (omega (arith, comtData-short cs fits has 0)))
+    (length-comtData 0 cs ∙ measured {bs = be 2 0 ++ flatMap commentBytes cs} (rw (c₀ .before .before .new .ensures) at (c₀ .comt-data .ensures .0)) (omega (arith, comtData-short _ cs fits has 0)))
     (c₁ .chunk-head .ensures)
     (rw (c₀ .comt-data .ensures .1) at (c₂ .comt-data2 .ensures .0))
     (c₃ .pad .ensures))
