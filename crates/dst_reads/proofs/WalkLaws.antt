@@ -1,12 +1,13 @@
--- The walk over the lengths, a frame at a time: the units' sizes are a function of the frames' lengths. Assumes nothing.
+-- The walk over the lengths, a block or a frame at a time: the units' sizes are a function of the frames' lengths. Assumes nothing.
 use mathlib.Core.Path.{_≡_, refl, sym, ap, _∙_}
-use mathlib.Core.Logic.{_⊎_, inl, inr}
-use mathlib.Core.Bool.{Bool}
+use mathlib.Core.Logic.{_⊎_, inl, inr, ⊎-elim}
+use mathlib.Core.Bool.{Bool, true, false}
 use mathlib.Core.List.{List, map}
 use Prim.Native.Nat.{ℕ, suc, _+_, _-_, _≤_, _<_}
 use native.Mathlib.Nat.{zero-add}
 use native.Mathlib.Numerals.{add-one}
 use native.Mathlib.Omega.{arith}
+use lib.Bits.{bitOr, and-le-l, and-le-r, or-add-and}
 use lib.ListN.{length, getD, length-map}
 use Rattle.sound_reads.specs.declared.place.Place.{Place}
 use Rattle.chunk.specs.Chunk.{occupied}
@@ -14,6 +15,7 @@ use Rattle.dst.specs.Unit.{unitSize}
 use Rattle.dst.specs.Start.{start}
 use Rattle.sound_reads.specs.Place.{placeOf, Inside}
 use Rattle.sound_reads.specs.Positions.{positions}
+use Rattle.window.proofs.TestLaws.{lt-or-le}
 use Rattle.dst.proofs.StartLaws.{start-zero, start-suc, size-at}
 use Rattle.sound_reads.proofs.PlaceLaws.{place-is, place-end}
 use Rattle.sound_reads.proofs.PositionsLaws.{positions-are}
@@ -22,6 +24,28 @@ use Rattle.sound_reads.proofs.PositionsLaws.{positions-are}
 pub unit-sized : (crc : Bool) (l : ℕ) → 0 < unitSize crc l
 unfolding unitSize occupied
 unit-sized crc l = omega arith
+
+-- and at most 29 more than its frame's length
+pub unit-most : (crc : Bool) (l : ℕ) → unitSize crc l ≤ l + 29
+unfolding unitSize occupied
+unit-most false l = omega arith
+unit-most true l = omega arith
+
+-- a number that has the bits of another is no smaller
+or-left : (a b : ℕ) → a ≤ bitOr a b
+or-left a b = omega (arith, or-add-and a b, and-le-r a b)
+
+or-right : (a b : ℕ) → b ≤ bitOr a b
+or-right a b = omega (arith, or-add-and a b, and-le-l a b)
+
+-- so a number that has the bits of the lengths from position k on is no smaller than any of them
+pub bound-on : (ls : List ℕ) (k i most : ℕ) → ((j : ℕ) → j < i → getD ls (k + j) 0 ≤ most)
+    → (j : ℕ) → j < i + 1 → getD ls (k + j) 0 ≤ bitOr most (getD ls (k + i) 0)
+bound-on ls k i most h j l =
+    ⊎-elim
+    (λ g. omega (arith, h j g, or-left most (getD ls (k + i) 0)))
+    (λ g. let e : j ≡ i = omega arith in rw e (or-right most (getD ls (k + i) 0)))
+    (lt-or-le j i)
 
 -- `left` of `count` bytes from a place on, the first of which is in the unit of frame `first`, are those from the unit of frame k on, less the
 -- bytes of that unit before the place
@@ -43,6 +67,14 @@ module _ (f : ℕ → ℕ) (ls : List ℕ) where
 
   pub inside-unit : (a : Place) → Inside (map f ls) a → a .position < length ls → a .within < f (getD ls (a .position) 0)
   inside-unit a i h = let n = length-sizes in rw (size-at f ls (a .position) h) at (i .short (omega arith))
+
+  -- the units from position k on, added up one after the other
+  pub block-on : (k i all : ℕ) → k + i < length ls → start (map f ls) (k + i) ≡ start (map f ls) k + all
+      → start (map f ls) (k + (i + 1)) ≡ start (map f ls) k + (all + f (getD ls (k + i) 0))
+  block-on k i all h b =
+      let e = next-start (k + i) h in
+      let j : k + (i + 1) ≡ suc (k + i) = omega arith in
+      rw j (omega arith)
 
   pub walk-starts : (place : ℕ) → start (map f ls) 0 + place ≡ place
   walk-starts place = rw (start-zero (map f ls)) (zero-add place)
