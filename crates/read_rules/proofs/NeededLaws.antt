@@ -1,15 +1,20 @@
 -- Which positions a read needs, by places in the file: a position is needed if the bytes from `offset` on, `room` of them, and the bytes of its unit, which begins after the header
 -- and the units before it, have one in common. Assumes nothing.
-use mathlib.Core.Path.{_≡_, ap₂, _∙_}
+use mathlib.Core.Path.{_≡_, ap, ap₂, fun-ext, _∙_}
+use mathlib.Core.Bool.{Bool}
 use mathlib.Core.Logic.{⊎-elim}
 use mathlib.Core.List.{List}
 use Prim.Native.Nat.{ℕ, suc, _+_, _-_, _<_, min, max}
 use native.Mathlib.Omega.{arith}
 use borrow.Author.Tests.{ltb-true, lt-ltb}
 use lib.Dec.{ltb}
+use lib.ListN.{length}
 use Rattle.dst.specs.Start.{start}
-use Rattle.sound_reads.specs.Positions.{touched}
+use Rattle.sound_reads.specs.Positions.{touched, range, positions}
 use Rattle.window.proofs.TestLaws.{test-same, lt-or-le}
+use Rattle.read_rules.specs.declared.format.SoundFormat.{SoundFormat}
+use Rattle.read_rules.specs.Format.{unitSizes}
+use Rattle.read_rules.specs.Needed.{needed}
 
 -- one test of two places says what another says
 same-test : (a b c d : ℕ) → (a < b → c < d) → (c < d → a < b) → ltb a b ≡ ltb c d
@@ -39,3 +44,11 @@ module _ (ss : List ℕ) (header offset room i : ℕ) where
       let d : header + (offset - header) ≡ offset = omega arith in
       rw (z, n) (in-sound header room (start ss i) (start ss (suc i)) (offset - header) ∙ ap₂ (λ (a b : ℕ). ltb (max (header + start ss i) a) (min (header + start ss (suc i)) (b + room))) d d))
       (lt-or-le offset header)
+
+-- So what a read needs is from the first to the last of the positions whose units' bytes and the read's, by their places in the file, have one in common.
+pub needed-in-file : (f : SoundFormat) (lengths : List ℕ) (header offset room : ℕ)
+    → needed f lengths header offset room
+    ≡ range (λ i. ltb (max (header + start (unitSizes f lengths) i) offset) (min (header + start (unitSizes f lengths) (suc i)) (offset + room))) (length (unitSizes f lengths))
+unfolding needed positions
+needed-in-file f lengths header offset room =
+    ap (λ (t : ℕ → Bool). range t (length (unitSizes f lengths))) (fun-ext (touched-in-file (unitSizes f lengths) header offset room))

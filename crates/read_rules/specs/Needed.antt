@@ -6,6 +6,7 @@ use Rattle.sound_reads.specs.Positions.{positions}
 use Rattle.read_rules.specs.declared.format.SoundFormat.{SoundFormat}
 use Rattle.read_rules.specs.Format.{unitSizes}
 
--- of a read of `room` bytes from the file's byte `offset` on, where the sound begins after so many bytes of header: of the sound it has what is left of both
+-- Of a read of `room` bytes from the file's byte `offset` on, where the sound begins after `header` bytes: of the sound it has the bytes from offset - header on (from 0 on, if it
+-- begins in the header), as many as are left of its room behind the header. (`needed-in-file` says the same by places in the file.)
 unfoldable pub needed : SoundFormat → List ℕ → ℕ → ℕ → ℕ → Positions
 needed f lengths header offset room = positions (unitSizes f lengths) (offset - header) (room - (header - offset))

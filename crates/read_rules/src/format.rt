@@ -20,7 +20,7 @@ const LONGEST_SIDE: u64 = 0x100_0000_0000;
 
 impl SoundFormat {
     // How many positions there are, with these lengths of DST frames.
-    pub fn position_count(self, lengths: &[u32]) -> u64
+    fn position_count(self, lengths: &[u32]) -> u64
         ensures { λ r. ⌜ r ≡ positionCount self (now (lengths .entry)) ⌝ }
     {
         let sound = self.sound;
