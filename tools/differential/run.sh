@@ -1,11 +1,20 @@
 #!/bin/sh
-# Holds this repository's compiled library against the original Rust, over random cases:
-#   run.sh [--seed N] [--count N] [--subject NAME] [--record FILE] [--request DIR] [--library FILE]
-# README.md says what is compared. Status: 0 all the same, 1 a disagreement, 2 something could not be run.
+# Holds this repository's compiled library against the original Rust, over random cases. README.md says what is compared.
+# Status: 0 all the same, 1 a disagreement, 2 something could not be run.
 set -eu
 
 usage() {
-    echo "usage: run.sh [--seed N] [--count N] [--subject NAME] [--record FILE] [--request DIR] [--library FILE]" >&2
+    cat >&2 <<'END'
+usage: run.sh [OPTION VALUE]..
+  --seed N         the seed of the drawn cases (20240611)
+  --count N        how many are drawn, of each subject (20000, of reads 1000)
+  --subject NAME   one of text, markers, sound, checks, builds, reads alone
+  --failing FILE   where its smallest failing case is saved (target/differential/smallest-NAME.txt)
+  --replay FILE    compare only the case that was saved in FILE, again
+  --record FILE    compare nothing, write builds with the original's answers
+  --request DIR    the folder of the request (../shared beside the repository's root)
+  --library FILE   this archive instead of that of `rt staticlib abi`
+END
     exit 2
 }
 
@@ -15,6 +24,8 @@ root=$(cd "$here/../.." && pwd)
 seed=20240611
 count=
 subject=
+failing=
+replay=
 record=
 request=$root/../shared
 library=
@@ -25,6 +36,8 @@ while [ $# -gt 0 ]; do
         --seed) seed=$2 ;;
         --count) count=$2 ;;
         --subject) subject=$2 ;;
+        --failing) failing=$2 ;;
+        --replay) replay=$2 ;;
         --record) record=$2 ;;
         --request) request=$2 ;;
         --library) library=$2 ;;
@@ -32,12 +45,15 @@ while [ $# -gt 0 ]; do
     esac
     shift 2
 done
+# That file is of one subject.
+[ -z "$failing" ] || [ -n "$subject" ] || usage
 
 prepare
 build differential
 
 status=0
-"$root/target/differential/release/differential" --seed "$seed" ${count:+--count "$count"} ${subject:+--subject "$subject"} ${record:+--record "$record"} \
+"$root/target/differential/release/differential" --seed "$seed" ${count:+--count "$count"} ${subject:+--subject "$subject"} \
+    ${failing:+--failing "$failing"} --folder "$root/target/differential" ${replay:+--replay "$replay"} ${record:+--record "$record"} \
     "$root/target/oracle/target/release/scarletbook" || status=$?
 [ "$status" -le 2 ] || failed "the comparison ended with status $status"
 exit "$status"

@@ -5,6 +5,7 @@ mod text_cases; // text_cases.rt: their pools and comments
 mod sound; // sound.rt: CRC, units, head, index and reads of DST sound; positions
 mod property; // property.rt: PROP
 mod diin; // diin.rt: DIIN and its markers
+mod document; // document.rt: document 01's figures that have no star
 mod print; // print.rt: lines of text, numbers and bytes
 
 fn main() {
@@ -17,4 +18,5 @@ fn main() {
     sound::cases();
     property::cases();
     diin::cases();
+    document::figures();
 }

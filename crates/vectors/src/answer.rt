@@ -1,48 +1,62 @@
-// The recorded answer.
-use crate::number::long;
-use crate::number::plus;
-use crate::number::word;
-use crate::span;
-use crate::span::Span;
+// The recorded answer of a build.
+use crate::number::take;
+use build_answer::answer::Answer;
 
-// The number of the refusal, 0 for none; the lengths of header, sound and trailer, or the refusal's detail and zeros; header and trailer, empty if refused.
+// Whether it is by document 01 alone; the number of the refusal, 0 for none; the lengths of header, sound and trailer, or the refusal's detail and zeros; and where
+// the file goes on, with header and trailer if nothing is refused.
 pub struct Wanted {
-    pub number: u32,
+    pub alone: bool,
+    pub number: u64,
     pub values: [u64; 3],
-    pub header: Span,
-    pub trailer: Span,
-}
-
-fn built(file: &[u8], at: usize) -> Wanted {
-    let header = span::counted(file, at);
-    let behind = header.end();
-    let trailer = span::counted(file, plus(behind, 8));
-    Wanted {
-        number: 0,
-        values: [
-            header.length as u64,
-            long(file, behind),
-            trailer.length as u64,
-        ],
-        header: header,
-        trailer: trailer,
-    }
+    pub at: usize,
 }
 
 pub fn read(file: &[u8], at: usize) -> Wanted {
-    let number = word(file, at);
-    let rest = plus(at, 12);
-    if number == 0 {
-        return built(file, rest);
+    let alone = take(file, at);
+    let refusal = take(file, alone.at);
+    let first = take(file, refusal.at);
+    if refusal.value != 0 {
+        return Wanted {
+            alone: alone.value != 0,
+            number: refusal.value,
+            values: [first.value, 0, 0],
+            at: first.at,
+        };
     }
-    let none = Span {
-        at: rest,
-        length: 0,
-    };
+    let sound = take(file, first.at);
+    let trailer = take(file, sound.at);
     Wanted {
-        number: number,
-        values: [long(file, plus(at, 4)), 0, 0],
-        header: none,
-        trailer: none,
+        alone: alone.value != 0,
+        number: 0,
+        values: [first.value, sound.value, trailer.value],
+        at: trailer.at,
     }
+}
+
+fn is(given: Answer, number: u64, values: [u64; 3]) -> bool {
+    if given.number() as u64 != number {
+        return false;
+    }
+    let answered = given.values();
+    if answered[0] != values[0] {
+        return false;
+    }
+    if answered[1] != values[1] {
+        return false;
+    }
+    answered[2] == values[2]
+}
+
+// Whether it is as recorded, the buffers having so many bytes: 40 or 41 where they are too few.
+pub fn holds(wanted: Wanted, given: Answer, header: usize, trailer: usize) -> bool {
+    let values = wanted.values;
+    if wanted.number == 0 {
+        if values[0] > header as u64 {
+            return is(given, 40, [values[0], 0, 0]);
+        }
+        if values[2] > trailer as u64 {
+            return is(given, 41, [values[2], 0, 0]);
+        }
+    }
+    is(given, wanted.number, values)
 }

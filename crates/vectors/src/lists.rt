@@ -1,17 +1,5 @@
-// Words of the file, in rows: some of them, and lists with their count in front.
+// Lists of words, each with its count in front.
 use crate::number::plus;
-use crate::number::word;
-
-// The words that stand in the file from `at` on, as many as there is room for.
-pub fn fill(file: &[u8], at: usize, rows: &mut [u32]) {
-    let mut from = at;
-    let mut i = 0;
-    while i < rows.len() {
-        rows[i] = word(file, from);
-        from = plus(from, 4);
-        i += 1;
-    }
-}
 
 // Where the list ends whose count stands at `at`.
 pub fn end(rows: &[u32], at: usize) -> usize {
@@ -20,8 +8,11 @@ pub fn end(rows: &[u32], at: usize) -> usize {
 
 // That list, an empty one where there is no room for it.
 pub fn list<'a>(rows: &'a [u32], at: usize) -> &'a [u32] {
-    let from = plus(at, 1);
-    let to = end(rows, at);
+    part(rows, plus(at, 1), end(rows, at))
+}
+
+// The words from one place to another, none where there is no room for them.
+pub fn part<'a>(rows: &'a [u32], from: usize, to: usize) -> &'a [u32] {
     if to > rows.len() {
         return &rows[..0];
     }
@@ -29,10 +20,4 @@ pub fn list<'a>(rows: &'a [u32], at: usize) -> &'a [u32] {
         return &rows[..0];
     }
     &rows[from..to]
-}
-
-// How many bytes so many words have.
-pub fn bytes(n: usize) -> usize {
-    let two = plus(n, n);
-    plus(two, two)
 }

@@ -1,23 +1,37 @@
-// Builds again what the original has built, and compares. The file data/builds has the records, written by tools/differential; the file stdout holds what is
-// to be printed where all agree. Numbers are big-endian and of 4 bytes where nothing else is said. First how many records there are. A record is the 67 words of
-// a build; pool, raw (of bytes), tracks, markers, comments, callers and lengths, each with its count in front; the number of the refusal, 0 for none, and its
-// detail (8 bytes); and where none is refused the header with its length in front, the length of the sound (8 bytes), and the trailer with its length in front.
+// Builds, asks and reads again what the original has answered, and compares. The file data/answers has the records, written by tools/differential; the file stdout
+// holds what is to be printed where all agree. A number is written in groups of 7 bits, the highest first, the last one in a byte below 128. A packed list begins with
+// how many pieces it has; a piece is twice a count, and so many elements (numbers, or bytes); or twice a count and one more, and how far back so many elements are
+// copied from. First how many records there are. A record begins with its kind:
+// 0, 1  a build, of more words for 1: all its words, packed: 67, then pool, tracks, markers, comments, callers and lengths, each with its count in front; raw, packed;
+//       the answer: 1 if it is by document 01 alone, 0 if it is the original's too; the number of the refusal and its detail; or 0, the lengths of header, sound and
+//       trailer, and header and trailer, packed. A header or a trailer of more bytes than there is room for here is recorded as 40 or 41 with its length
+// 2     a file: words, packed: whether it is DST, the CRC switch, channels, positions, seed, and the lengths with their count in front; the lengths of header and
+//       trailer, and 0, or 1 with header and trailer, packed (without them only queries can be asked); how many windows there are, and the windows. A window is offset
+//       and length; the first position needed and one past the last; how many lengths, bytes of DST frames and bytes of content are lent; 1 or 0 as above; the number
+//       of the refusal, or 0 and the bytes that are filled, packed
 mod number; // number.rt: numbers of the file
-mod span; // span.rt: bytes of the file
-mod lists; // lists.rt: words of the file, and lists of words
-mod answer; // answer.rt: the recorded answer
-mod compare; // compare.rt: the recorded answer and the one that is given now
-mod record; // record.rt: a record, built again
-mod reading; // reading.rt: reads of the file
-mod totals; // totals.rt: what all records come to
+mod unpack_words; // unpack_words.rt: packed lists of numbers
+mod unpack_bytes; // unpack_bytes.rt: packed lists of bytes
+mod lists; // lists.rt: lists of words
+mod buffers; // buffers.rt: buffers, what they hold before a call, the first bytes of one
+mod counts; // counts.rt: what is counted
+mod answer; // answer.rt: the recorded answer of a build
+mod inputs; // inputs.rt: the inputs of a build, and the build
+mod builds; // builds.rt: a recorded build, built again
+mod frames; // frames.rt: the bytes of frames
+mod window; // window.rt: a recorded window
+mod file; // file.rt: the file that windows are of
+mod reads; // reads.rt: a recorded window, asked and read again
+mod record; // record.rt: a record of any kind
+mod replay; // replay.rt: all records
 mod print; // print.rt: lines of text and numbers
 
 fn main() {
-    let fd = os::open_read(b"builds");
+    let fd = os::open_read(b"answers");
     if fd < 0 {
-        os::fail(b"builds");
+        os::fail(b"answers");
         return;
     }
-    totals::all(fd);
+    replay::all(fd);
     libc::close(fd);
 }

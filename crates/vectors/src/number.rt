@@ -1,7 +1,30 @@
-// Numbers of the file, big-endian. What stands past the end of the file counts as 0.
+// Numbers of the file. What stands past the end of the file counts as 0.
 
 // More than any file here has bytes.
 pub const PAST: usize = 0x4000_0000;
+
+// A number of more bits than 64 is none.
+const ROOM_FOR_SEVEN_BITS: u64 = 0x200_0000_0000_0000;
+
+// A number, and where the file goes on, PAST if it ends before.
+pub struct Number {
+    pub value: u64,
+    pub at: usize,
+}
+
+impl Number {
+    // As a place or a count.
+    pub fn count(self) -> usize {
+        count(self.value)
+    }
+}
+
+pub fn count(n: u64) -> usize {
+    if n < PAST as u64 {
+        return n as usize;
+    }
+    PAST
+}
 
 // The sum of places or counts, PAST where one of them is as much.
 pub fn plus(a: usize, b: usize) -> usize {
@@ -14,23 +37,22 @@ pub fn plus(a: usize, b: usize) -> usize {
     a + b
 }
 
-pub fn byte(file: &[u8], at: usize) -> u8 {
-    if at < file.len() {
-        return file[at];
+pub fn take(file: &[u8], at: usize) -> Number {
+    let mut value = 0;
+    let mut i = at;
+    while i < file.len() {
+        let b = file[i];
+        i += 1;
+        if value >= ROOM_FOR_SEVEN_BITS {
+            break;
+        }
+        value = value * 0x80 + (b % 0x80) as u64;
+        if b < 0x80 {
+            return Number {
+                value: value,
+                at: i,
+            };
+        }
     }
-    0
-}
-
-pub fn word(file: &[u8], at: usize) -> u32 {
-    let a = byte(file, at) as u32;
-    let b = byte(file, plus(at, 1)) as u32;
-    let c = byte(file, plus(at, 2)) as u32;
-    let d = byte(file, plus(at, 3)) as u32;
-    ((a * 0x100 + b) * 0x100 + c) * 0x100 + d
-}
-
-pub fn long(file: &[u8], at: usize) -> u64 {
-    let high = word(file, at) as u64;
-    let low = word(file, plus(at, 4)) as u64;
-    high * 0x1_0000_0000 + low
+    Number { value: 0, at: PAST }
 }

@@ -1,11 +1,9 @@
 // Lines of the answer.
+use crate::counts;
+use crate::counts::get;
 use crate::number::PAST;
 use crate::number::plus;
-use crate::totals::Totals;
 use libc::STDOUT_FILENO;
-
-// So many lines at most say which records differ.
-const SHOWN: usize = 20;
 
 fn text(s: &[u8]) {
     io::write_all(STDOUT_FILENO, s);
@@ -17,31 +15,63 @@ fn put(s: &[u8], n: usize) {
     io::print_decimal(STDOUT_FILENO, n as u64);
 }
 
-// The last record of these differs.
-pub fn differs(t: Totals) {
-    let record = plus(t.built, t.refused);
-    if record <= plus(t.agree, SHOWN) {
-        put(b"differs: record ", record);
-        text(b"\n");
-    }
+pub fn differs(record: usize) {
+    put(b"differs: record ", record);
+    text(b"\n");
 }
 
 // Whether the file ends where its records do.
 pub fn end(at: usize, ends: bool) {
     if at >= PAST {
         text(b"the file is cut short\n");
+        return;
     }
     if !ends {
         text(b"the file is too long\n");
     }
 }
 
-pub fn totals(t: Totals) {
-    put(b"records: ", plus(t.built, t.refused));
-    put(b"; built: ", t.built);
-    put(b"; refused: ", t.refused);
-    put(b"; agree: ", t.agree);
-    put(b"\nbytes of headers and trailers that agree: ", t.bytes);
+fn builds(counts: &[usize]) {
+    let built = get(counts, counts::BUILT);
+    let refused = get(counts, counts::REFUSED);
+    put(b"builds: ", plus(built, refused));
+    put(b"; built: ", built);
+    put(b"; refused: ", refused);
+    put(b"; agree: ", get(counts, counts::BUILDS_AGREE));
+    put(
+        b"\nbytes of headers and trailers that agree: ",
+        get(counts, counts::BYTES),
+    );
+    put(
+        b"\nbuilds with a buffer one byte short, 40 or 41: ",
+        get(counts, counts::SHORT),
+    );
+}
+
+fn reads(counts: &[usize]) {
+    let filled = get(counts, counts::FILLED);
+    let not_filled = get(counts, counts::NOT_FILLED);
+    put(b"\nqueries: ", get(counts, counts::QUERIES));
+    put(b"; agree: ", get(counts, counts::QUERIES_AGREE));
+    put(b"\nreads: ", plus(filled, not_filled));
+    put(b"; filled: ", filled);
+    put(b"; refused: ", not_filled);
+    put(b"; agree: ", get(counts, counts::READS_AGREE));
+    put(
+        b"\nbytes filled that agree: ",
+        get(counts, counts::FILLED_BYTES),
+    );
+}
+
+pub fn totals(records: usize, counts: &[usize]) {
+    put(b"records: ", records);
+    text(b"\n");
+    builds(counts);
+    reads(counts);
+    put(
+        b"\nof builds and windows, answered by document 01 alone: ",
+        get(counts, counts::ALONE),
+    );
     text(b"\n");
 }
 
@@ -53,11 +83,11 @@ fn refusal(k: usize, times: usize) {
     }
 }
 
-// How often each number was answered, but for 0.
+// How often each number was recorded, but for 0.
 pub fn refusals(counts: &[usize]) {
     let mut k = 1;
-    while k < counts.len() {
-        refusal(k, counts[k]);
+    while k < counts::BUILT {
+        refusal(k, get(counts, k));
         k += 1;
     }
 }

@@ -1,117 +1,106 @@
-// A record, built again.
-use crate::answer;
-use crate::compare;
-use crate::compare::FILL;
+// A record of any kind.
+use crate::buffers::FILL;
+use crate::builds;
+use crate::builds::Outcome;
+use crate::file;
+use crate::file::LENGTHS;
 use crate::lists;
-use crate::lists::list;
 use crate::number::PAST;
-use crate::number::plus;
-use crate::span;
-use crate::span::Span;
-use build_answer::answer::Answer;
+use crate::number::take;
+use crate::reads;
+use crate::unpack_words;
 
-// How many words a record begins with. The pool is behind them.
-const WORDS: usize = 67;
+// Room for the words and for the other lists of most records.
+const WORDS: usize = 2_048;
 
-// Room for the words on either side of raw, and for a header or a trailer.
-const ROWS: usize = 2_048;
+const ROOM: usize = 8_192;
 
-const ROOM: usize = 4_096;
+// The same of the longest: 65,536 comments, and texts of 65,536 elements.
+const MOST_WORDS: usize = 600_000;
 
-// The number that is answered now, whether all is as recorded, how many bytes of header and trailer are recorded, and where the record ends, PAST if the file
-// ends before.
-pub struct Outcome {
-    pub number: u8,
-    pub agrees: bool,
-    pub bytes: usize,
-    pub end: usize,
-}
+const MOST_ROOM: usize = 66_560;
 
-// Where in the words behind raw the counts of the other lists stand, and where these end.
-struct Lists {
-    markers: usize,
-    comments: usize,
-    callers: usize,
-    lengths: usize,
-    end: usize,
-}
-
-fn find(back: &[u32]) -> Lists {
-    let markers = lists::end(back, 0);
-    let comments = lists::end(back, markers);
-    let callers = lists::end(back, comments);
-    let lengths = lists::end(back, callers);
-    Lists {
-        markers: markers,
-        comments: comments,
-        callers: callers,
-        lengths: lengths,
-        end: lists::end(back, lengths),
-    }
-}
-
-// Only the first 67 words count as the words of the build.
-fn build(
-    front: &[u32],
-    raw: &[u8],
-    back: &[u32],
-    lists: Lists,
-    header: &mut [u8],
-    trailer: &mut [u8],
-) -> Answer {
-    assemble::build::build_rows(
-        words::inputs::area_of(front),
-        words::inputs::options_of(front),
-        words::orders::property_order(front),
-        words::orders::info_order(front),
-        words::orders::local_order(front),
-        single_words::word::word(front, 66),
-        list(front, WORDS),
-        raw,
-        list(back, 0),
-        list(back, lists.markers),
-        list(back, lists.comments),
-        list(back, lists.callers),
-        list(back, lists.lengths),
-        header,
-        trailer,
+fn build(file: &[u8], at: usize, counts: &mut [usize]) -> Outcome {
+    let mut rows = [0u32; WORDS];
+    let mut raw = [0u8; ROOM];
+    let mut header = [FILL; ROOM];
+    let mut trailer = [FILL; ROOM];
+    let mut wanted_header = [FILL; ROOM];
+    let mut wanted_trailer = [FILL; ROOM];
+    builds::run(
+        file,
+        at,
+        counts,
+        &mut rows,
+        &mut raw,
+        &mut header,
+        &mut trailer,
+        &mut wanted_header,
+        &mut wanted_trailer,
     )
 }
 
-fn whole(file: &[u8], end: usize) -> usize {
-    if end > file.len() {
-        return PAST;
-    }
-    end
-}
-
-fn compared(file: &[u8], front: &[u32], raw: Span, back: &[u32]) -> Outcome {
-    let lists = find(back);
-    let wanted = answer::read(file, plus(raw.end(), lists::bytes(lists.end)));
-    let mut header = [FILL; ROOM];
+fn large_build(file: &[u8], at: usize, counts: &mut [usize]) -> Outcome {
+    let mut rows = [0u32; MOST_WORDS];
+    let mut raw = [0u8; MOST_ROOM];
+    let mut header = [FILL; MOST_ROOM];
     let mut trailer = [FILL; ROOM];
-    let given = build(
-        front,
-        span::bytes(file, raw),
-        back,
-        lists,
+    let mut wanted_header = [FILL; MOST_ROOM];
+    let mut wanted_trailer = [FILL; ROOM];
+    builds::run(
+        file,
+        at,
+        counts,
+        &mut rows,
+        &mut raw,
         &mut header,
         &mut trailer,
-    );
+        &mut wanted_header,
+        &mut wanted_trailer,
+    )
+}
+
+fn windows(file: &[u8], at: usize, counts: &mut [usize]) -> Outcome {
+    let mut rows = [0u32; WORDS];
+    let mut header = [FILL; ROOM];
+    let mut trailer = [FILL; ROOM];
+    let words = unpack_words::unpack(file, at, &mut rows);
+    let f = file::read(file, words.at, &rows, &mut header, &mut trailer);
+    reads::run(
+        file,
+        counts,
+        f,
+        lists::list(&rows, LENGTHS),
+        &header,
+        &trailer,
+    )
+}
+
+fn of_kind(file: &[u8], counts: &mut [usize]) -> Outcome {
+    let kind = take(file, 0);
+    if kind.value == 0 {
+        return build(file, kind.at, counts);
+    }
+    if kind.value == 1 {
+        return large_build(file, kind.at, counts);
+    }
+    if kind.value == 2 {
+        return windows(file, kind.at, counts);
+    }
     Outcome {
-        number: given.number(),
-        agrees: compare::same(file, wanted, given, &header, &trailer),
-        bytes: plus(wanted.header.length, wanted.trailer.length),
-        end: whole(file, wanted.trailer.end()),
+        agrees: false,
+        end: PAST,
     }
 }
 
-// The record that stands at the beginning of the file.
-pub fn run(file: &[u8]) -> Outcome {
-    let mut front = [0u32; ROWS];
-    lists::fill(file, 0, &mut front);
-    let raw = span::counted(file, lists::bytes(lists::end(&front, WORDS)));
-    let mut back = [0u32; ROWS];
-    lists::fill(file, raw.end(), &mut back);
-    compared(file, &front, raw, &back)
+// The record that stands at the beginning of the file, which does not end before it.
+pub fn run(file: &[u8], counts: &mut [usize]) -> Outcome {
+    let o = of_kind(file, counts);
+    if o.end <= file.len() {
+        return o;
+    }
+    Outcome {
+        agrees: false,
+        end: PAST,
+    }
 }

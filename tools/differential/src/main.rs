@@ -11,8 +11,11 @@ mod chunks;
 mod lines;
 mod markers;
 mod original;
+mod progress;
 mod random;
 mod reads;
+mod record;
+mod saved;
 mod sound;
 mod subject;
 mod text;
@@ -21,7 +24,11 @@ use std::env;
 use std::path::{Path, PathBuf};
 use std::process::ExitCode;
 
-const USAGE: &str = "usage: differential [--seed N] [--count N] [--subject NAME] [--record FILE] PROGRAM";
+use self::saved::Saved;
+use self::subject::{Failing, Task};
+
+const USAGE: &str = "usage: differential [--seed N] [--count N] [--subject NAME [--failing FILE]] [--folder DIR] \
+                     [--record FILE] [--replay FILE] PROGRAM";
 
 struct Arguments {
     seed: u64,
@@ -31,11 +38,16 @@ struct Arguments {
     subject: Option<String>,
     /// Nothing is compared then.
     record: Option<PathBuf>,
+    /// A saved case, which alone is compared.
+    replay: Option<PathBuf>,
+    /// Where the subject's smallest failing case is saved, if not in a file of that folder.
+    failing: Option<PathBuf>,
+    folder: PathBuf,
     program: PathBuf,
 }
 
-/// Runs a subject's cases of a seed, and answers whether all agreed.
-type Run = fn(&Path, u64, u64) -> Result<bool, String>;
+/// Compares cases of a subject, and answers whether all agreed.
+type Run = fn(&Path, &Task) -> Result<bool, String>;
 
 /// How many cases there are, unless the arguments say.
 const COUNT: u64 = 20_000;
@@ -54,6 +66,7 @@ const SUBJECTS: [(&str, Run, u64); 6] = [
 fn arguments() -> Option<Arguments> {
     let (mut seed, mut count, mut program) = (20_240_611, None, None);
     let (mut subject, mut record) = (None, None);
+    let (mut replay, mut failing, mut folder) = (None, None, PathBuf::new());
     let mut words = env::args().skip(1);
     while let Some(word) = words.next() {
         match word.as_str() {
@@ -65,12 +78,19 @@ fn arguments() -> Option<Arguments> {
                 subject = Some(name);
             }
             "--record" => record = Some(words.next()?.into()),
+            "--replay" => replay = Some(words.next()?.into()),
+            "--failing" => failing = Some(words.next()?.into()),
+            "--folder" => folder = words.next()?.into(),
             _ if program.is_none() && !word.starts_with("--") => program = Some(word.into()),
             _ => return None,
         }
     }
+    // The file is of one subject.
+    if failing.is_some() && subject.is_none() {
+        return None;
+    }
     let program = program?;
-    Some(Arguments { seed, count, subject, record, program })
+    Some(Arguments { seed, count, subject, record, replay, failing, folder, program })
 }
 
 fn main() -> ExitCode {
@@ -88,15 +108,24 @@ fn main() -> ExitCode {
 }
 
 /// True if all agreed, or if nothing was to be compared.
-fn run(Arguments { seed, count, subject, record, program }: &Arguments) -> Result<bool, String> {
+fn run(arguments: &Arguments) -> Result<bool, String> {
+    let Arguments { seed, count, subject, record, replay, failing, folder, program } = arguments;
+    if let Some(file) = replay {
+        let saved = Saved::read(file)?;
+        let found = SUBJECTS.iter().find(|(name, ..)| *name == saved.subject);
+        let (_, run, _) = found.ok_or_else(|| format!("no subject {}", saved.subject))?;
+        return run(program, &Task::Again(&saved));
+    }
     if let Some(file) = record {
-        builds::record::record(program, *seed, count.unwrap_or(COUNT), file)?;
+        record::record(program, *seed, count.unwrap_or(COUNT), file)?;
         return Ok(true);
     }
     let mut agreed = true;
     for (name, run, usual) in SUBJECTS {
         if subject.as_deref().is_none_or(|subject| subject == name) {
-            agreed &= run(program, *seed, count.unwrap_or(usual))?;
+            let file = failing.clone().unwrap_or_else(|| folder.join(format!("smallest-{name}.txt")));
+            let failing = Failing { subject: name, file: &file };
+            agreed &= run(program, &Task::All { seed: *seed, count: count.unwrap_or(usual), failing })?;
         }
     }
     Ok(agreed)

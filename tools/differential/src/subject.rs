@@ -1,4 +1,4 @@
-//! A subject of comparison, and what is the same for all of them: running, reporting, shrinking.
+//! A subject of comparison, and what is the same for all of them: running, reporting, shrinking, comparing again.
 
 use std::collections::BTreeMap;
 use std::fmt::Display;
@@ -6,7 +6,9 @@ use std::ops::Range;
 use std::path::Path;
 
 use crate::original::{Answer, Original};
+use crate::progress::Progress;
 use crate::random::Random;
+use crate::saved::{Number, Saved, Text};
 
 pub trait Subject {
     const NAME: &'static str;
@@ -58,46 +60,74 @@ const ENOUGH_BYTES: usize = 1 << 26;
 const SHOWN_LINES: usize = 100;
 const SHOWN_CHARACTERS: usize = 2_000;
 
-/// A failing case, and what it is called.
+/// What is to be done with a subject's cases.
+pub enum Task<'a> {
+    /// Compare the fixed ones and the first `count` of the seed, and save the smallest that fails.
+    All { seed: u64, count: u64, failing: Failing<'a> },
+    /// Compare a saved one again.
+    Again(&'a Saved),
+}
+
+/// Where a failing case is saved, and what the subject is called there.
+#[derive(Clone, Copy)]
+pub struct Failing<'a> {
+    pub subject: &'a str,
+    pub file: &'a Path,
+}
+
+/// Does it, and prints what came out. True if all agreed.
+pub fn run<S: Subject>(program: &Path, task: &Task) -> Result<bool, String> {
+    match *task {
+        Task::All { seed, count, failing } => all::<S>(program, seed, count, failing),
+        Task::Again(saved) => again::<S>(program, saved),
+    }
+}
+
+/// A failing case.
 struct Failure<C> {
-    name: String,
+    number: Number,
     size: usize,
     case: C,
 }
 
-/// Runs the fixed cases and the first `count` cases of the seed, and prints what came out. True if all agreed.
-pub fn run<S: Subject>(program: &Path, seed: u64, count: u64) -> Result<bool, String> {
+fn text<S: Subject>(case: &S::Case) -> Text {
+    Text { for_original: S::for_original(case), for_us: S::for_us(case) }
+}
+
+fn all<S: Subject>(program: &Path, seed: u64, count: u64, failing: Failing<'_>) -> Result<bool, String> {
     let mut original = Original::start(program)?;
     let mut counts = S::Counts::default();
     let mut by_kind = BTreeMap::<String, u64>::new();
     let (mut same, mut failed) = (0u64, 0u64);
     let mut smallest: Option<Failure<S::Case>> = None;
+    let mut progress = Progress::new(S::NAME);
 
     let fixed = S::fixed();
     let fixed_count = fixed.len() as u64;
-    let name = |number: u64| match number.checked_sub(fixed_count) {
-        None => format!("fixed case {number}"),
-        Some(number) => format!("case {number}"),
-    };
+    let name = |number: u64| number.checked_sub(fixed_count).map_or(Number::Fixed(number), Number::Drawn);
     let drawn = (0..count).map(|number| S::draw(&mut Random::of_case(seed, number)));
     let cases = fixed.into_iter().chain(drawn).map(|case| {
         let lines = S::for_original(&case);
         (case, lines)
     });
     original.ask_all(cases, |number, case, answer| {
+        progress.tell(|| format!("{} of {} cases, {failed} disagree", same + failed, fixed_count + count));
+        let number = name(number);
         let found = S::compare(&case, &answer, &mut counts)
-            .map_err(|e| format!("{}, {} of seed {seed}: {e}", S::NAME, name(number)))?;
+            .map_err(|e| format!("{}, {number} of seed {seed}: {e}", S::NAME))?;
         if found.is_empty() {
             same += 1;
             return Ok(());
         }
         failed += 1;
+        let text = text::<S>(&case);
+        let size = text.for_original.len() + text.for_us.len();
+        if smallest.as_ref().is_none_or(|smallest| size < smallest.size) {
+            failing.save(seed, number, &[], &text, &found)?;
+            smallest = Some(Failure { number, size, case });
+        }
         for disagreement in found {
             *by_kind.entry(disagreement.what).or_default() += 1;
-        }
-        let size = S::for_original(&case).len() + S::for_us(&case).len();
-        if smallest.as_ref().is_none_or(|smallest| size < smallest.size) {
-            smallest = Some(Failure { name: name(number), size, case });
         }
         Ok(())
     })?;
@@ -105,6 +135,7 @@ pub fn run<S: Subject>(program: &Path, seed: u64, count: u64) -> Result<bool, St
     if same + failed != fixed_count + count {
         return Err(format!("{} of {} cases were compared", same + failed, fixed_count + count));
     }
+    drop(progress);
     let fixed = if fixed_count > 0 { format!(" and {fixed_count} fixed ones") } else { String::new() };
     println!("{}: seed {seed}, {count} cases{fixed}, {same} the same\n", S::NAME);
     println!("{counts}");
@@ -116,49 +147,123 @@ pub fn run<S: Subject>(program: &Path, seed: u64, count: u64) -> Result<bool, St
     for (what, times) in &by_kind {
         println!("  {times:>8}  {what}");
     }
-    shrink::<S>(&mut original, smallest)?;
-    Ok(false)
-}
-
-/// Makes a failing case as small as it gets, and prints it.
-fn shrink<S: Subject>(original: &mut Original, failure: Failure<S::Case>) -> Result<(), String> {
-    let mut tries = 0u64;
-    let mut bytes = 0;
-    let mut found_in = |case: &S::Case| {
-        let lines = S::for_original(case);
-        let answer = original.ask("smallest", &lines)?;
-        bytes += lines.len() + answer.bytes();
-        Ok((S::compare(case, &answer, &mut S::Counts::default())?, bytes))
-    };
-    let mut fails = |case: &S::Case| {
-        tries += 1;
-        match found_in(case) {
-            Err(message) => Err(Halt::Error(message)),
-            Ok((_, bytes)) if bytes > ENOUGH_BYTES => Err(Halt::Enough),
-            Ok((found, _)) => Ok(!found.is_empty()),
-        }
-    };
-    let mut case = failure.case;
-    let whole = loop {
-        let before = case.clone();
-        match S::simplify(&mut case, &mut fails) {
-            Ok(()) if case == before => break true,
-            Ok(()) => {}
-            Err(Halt::Enough) => break false,
-            Err(Halt::Error(message)) => return Err(message),
-        }
-    };
-    let (found, _) = found_in(&case)?;
-    println!("\nthe smallest, from {} in {tries} tries", failure.name);
+    let Shrunk { number, case, kept, whole, found } = shrink::<S>(&mut original, smallest)?;
+    let text = text::<S>(&case);
+    failing.save(seed, number, &kept, &text, &found)?;
+    println!("\nthe smallest, from {number} in {} tries, saved in {}", kept.len(), failing.file.display());
     if !whole {
         println!("(given up: it may get smaller)");
     }
-    print_cut("for the original:", &format!("case smallest\n{}end", S::for_original(&case)));
-    print_cut("for us:", &S::for_us(&case));
-    for Disagreement { what, expected, ours } in found {
-        print_cut(&what, &format!("{expected}\n{ours}"));
+    print_case(&text, &found);
+    Ok(false)
+}
+
+impl Failing<'_> {
+    fn save(
+        &self,
+        seed: u64,
+        number: Number,
+        kept: &[bool],
+        text: &Text,
+        found: &[Disagreement],
+    ) -> Result<(), String> {
+        let (subject, checksum) = (self.subject.into(), text.checksum());
+        Saved { subject, seed, number, kept: kept.to_vec(), checksum }.write(self.file, text, found)
     }
-    Ok(())
+}
+
+/// A failing case as small as it got.
+struct Shrunk<C> {
+    number: Number,
+    case: C,
+    /// The answers on the way.
+    kept: Vec<bool>,
+    /// Whether it was not given up.
+    whole: bool,
+    found: Vec<Disagreement>,
+}
+
+/// Makes a failing case as small as it gets.
+fn shrink<S: Subject>(original: &mut Original, failure: Failure<S::Case>) -> Result<Shrunk<S::Case>, String> {
+    let mut progress = Progress::new(S::NAME);
+    let Failure { number, mut case, .. } = failure;
+    let (mut kept, mut bytes) = (Vec::new(), 0);
+    let whole = simplify::<S>(&mut case, &mut |simpler| {
+        progress.tell(|| format!("a smaller case, {} tries", kept.len()));
+        let lines = S::for_original(simpler);
+        let answer = original.ask("smallest", &lines).map_err(Halt::Error)?;
+        bytes += lines.len() + answer.bytes();
+        if bytes > ENOUGH_BYTES {
+            return Err(Halt::Enough);
+        }
+        // One that cannot be compared is not kept.
+        let found = S::compare(simpler, &answer, &mut S::Counts::default());
+        let fails = found.is_ok_and(|found| !found.is_empty());
+        kept.push(fails);
+        Ok(fails)
+    })?;
+    let answer = original.ask("smallest", &S::for_original(&case))?;
+    let found = S::compare(&case, &answer, &mut S::Counts::default())?;
+    Ok(Shrunk { number, case, kept, whole, found })
+}
+
+/// Goes through the simpler forms of a case until nothing changes. False if that was given up. What comes out goes by the
+/// answers of `fails` alone.
+fn simplify<S: Subject>(case: &mut S::Case, fails: Fails<'_, S::Case>) -> Result<bool, String> {
+    loop {
+        let before = case.clone();
+        match S::simplify(case, fails) {
+            Ok(()) if *case == before => return Ok(true),
+            Ok(()) => {}
+            Err(Halt::Enough) => return Ok(false),
+            Err(Halt::Error(message)) => return Err(message),
+        }
+    }
+}
+
+/// Compares a saved case: draws it again, and makes it simpler by the answers that there were.
+fn again<S: Subject>(program: &Path, saved: &Saved) -> Result<bool, String> {
+    let Saved { seed, number, .. } = *saved;
+    let mut case = match number {
+        Number::Fixed(place) => {
+            let case = S::fixed().into_iter().nth(place as usize);
+            case.ok_or_else(|| format!("{} has no {number}", S::NAME))?
+        }
+        Number::Drawn(number) => S::draw(&mut Random::of_case(seed, number)),
+    };
+    let mut kept = saved.kept.iter().copied();
+    simplify::<S>(&mut case, &mut |_| kept.next().ok_or(Halt::Enough))?;
+    let text = text::<S>(&case);
+    let same = text.checksum() == saved.checksum;
+
+    let mut original = Original::start(program)?;
+    let answer = original.ask("smallest", &text.for_original)?;
+    let found = S::compare(&case, &answer, &mut S::Counts::default())?;
+    println!("{}: {number} of seed {seed}, made smaller in {} tries", S::NAME, saved.kept.len());
+    if !same {
+        println!("This is not the case that was saved: this tool, or what our library builds, has changed since.");
+    }
+    print_case(&text, &found);
+    match (found.len(), same) {
+        (0, false) => Err("another case than the one that was saved agrees".into()),
+        (0, true) => {
+            println!("\nall agree");
+            Ok(true)
+        }
+        (number, _) => {
+            println!("\ndisagreements: {number}");
+            Ok(false)
+        }
+    }
+}
+
+/// Prints a case and what disagrees.
+fn print_case(text: &Text, found: &[Disagreement]) {
+    print_cut("for the original:", &text.case());
+    print_cut("for us:", &text.for_us);
+    for Disagreement { what, expected, ours } in found {
+        print_cut(what, &format!("{expected}\n{ours}"));
+    }
 }
 
 /// Prints a title and lines below it, cut where they are too long to read.

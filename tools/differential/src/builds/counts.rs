@@ -12,6 +12,7 @@ use super::{Case, File, Outcome};
 use crate::checks;
 use crate::checks::fixed::{Fixed, Part};
 use crate::chunks::{self, Chunk};
+use crate::reads;
 
 #[derive(Default)]
 pub struct Counts {
@@ -23,6 +24,7 @@ pub struct Counts {
     drawn_orders: [BTreeSet<Vec<u8>>; 2],
     calls: Calls,
     checks: checks::counts::Counts,
+    pub reads: reads::counts::Counts,
 }
 
 /// A file's chunks, and how many of them are before the sound.
@@ -194,6 +196,7 @@ impl fmt::Display for Counts {
         ] {
             writeln!(f, "  {name:40}{count:>14}")?;
         }
+        self.reads.windows(f)?;
         write!(f, "{}", self.checks)
     }
 }

@@ -18,7 +18,7 @@ pub fn draw(random: &mut Random) -> Case {
     // The original says 13 to it, and there is no file to compare with.
     build.beyond.retain(|&beyond| beyond != Beyond::TrackZero);
     draw_lengths(random, &mut build);
-    Case::of(build)
+    Case::of(build).with_windows(random)
 }
 
 /// A build that is accepted.

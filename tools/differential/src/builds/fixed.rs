@@ -6,11 +6,13 @@ use library::markers::{INDEX, OF_TRACK, PROGRAM_START, TRACK_START, TRACK_STOP};
 use library::text::{Extent, D2, REMOVE, REPLACE};
 
 use super::figures::{Figure, Figures};
+use super::limits::limits;
 use super::Case;
 use crate::checks::fixed::{self as checks, caller, comments, marker, plain, track, Context, Fixed, Part, NONE};
 use crate::checks::{layout_of, Caller, Case as Build, Comments};
 use crate::markers::draw::{LAST_FRAME, LAYOUTS};
 use crate::markers::MarkerOf;
+use crate::random::Random;
 
 pub const DSD: Context = Context { dst: false, edited_master: false };
 pub const DST: Context = Context { dst: true, edited_master: false };
@@ -31,7 +33,7 @@ pub fn set_range(build: &mut Build, positions: u32) {
     (build.of.info.playtime, build.of.info.first, build.of.info.end) = (positions, 0, positions);
 }
 
-fn set_start(build: &mut Build, frame: u32) {
+pub fn set_start(build: &mut Build, frame: u32) {
     build.of.properties.start = Start { given: true, frame };
     build.of.info.start = build.of.properties.start;
 }
@@ -58,7 +60,7 @@ fn text(build: &mut Build, text: &str) -> [u32; 3] {
 }
 
 /// A text of the byte pool, added to it.
-fn bytes(build: &mut Build, text: &[u8]) -> Extent {
+pub fn bytes(build: &mut Build, text: &[u8]) -> Extent {
     let start = build.of.raw.len() as u32;
     build.of.raw.extend(text);
     Extent { start, length: text.len() as u32 }
@@ -372,5 +374,9 @@ pub fn of_checks() -> Vec<Case> {
 }
 
 pub fn fixed() -> Vec<Case> {
-    [own(), of_checks()].concat()
+    let cases = own().into_iter().chain(limits()).chain(of_checks());
+    (0..).zip(cases).map(|(number, case)| case.with_windows(&mut Random::of_case(WINDOWS, number))).collect()
 }
+
+/// The seed of the windows.
+const WINDOWS: u64 = 17;

@@ -1,10 +1,11 @@
-//! Builds: what stands before and after the sound of a whole file, and how long the sound is; or the refusal.
+//! Builds: what stands before and after the sound of a whole file, and how long the sound is, with a few reads of the file;
+//! or the refusal.
 
 mod counts;
 pub mod draw;
 mod figures;
 pub mod fixed;
-pub mod record;
+pub mod limits;
 mod rooms;
 
 use library::checks::Verdict;
@@ -14,29 +15,91 @@ use self::figures::Figures;
 use crate::checks::{self, Checks, Wanted};
 use crate::original::Answer;
 use crate::random::Random;
-use crate::subject::{Disagreement, Fails, Halt, Subject};
+use crate::reads::asked::{self, simplify_lists, simplify_windows, Asked, Asks};
+use crate::reads::draw::draw_few;
+use crate::reads::hold::Held;
+use crate::reads::{self, refused};
+use crate::subject::{keep, Disagreement, Fails, Halt, Subject};
 
 pub struct Builds;
 
-/// The inputs of a build, at fault or not.
+/// The inputs of a build, at fault or not, and windows of its file.
 #[derive(Clone, PartialEq)]
 pub struct Case {
-    build: checks::Case,
+    pub build: checks::Case,
     /// Document 01's figures, of a case that has some.
     figures: Option<Figures>,
+    /// Decides the bytes of the frames.
+    seed: u32,
+    /// What our library makes of the build, if anything is asked of it and it is accepted.
+    pub ours: Option<reads::file::File>,
+    pub asked: Asked,
 }
 
 impl Case {
+    /// A case without windows.
     fn of(build: checks::Case) -> Case {
-        Case { build, figures: None }
+        Case { build, figures: None, seed: 0, ours: None, asked: Asked::default() }
+    }
+
+    /// The case with a few windows, if our library accepts the build.
+    fn with_windows(mut self, random: &mut Random) -> Case {
+        self.seed = random.between(0, 255);
+        self.ours = reads::file::File::of(&self.build, self.seed, &[]).ok();
+        if let Some(file) = &self.ours {
+            self.asked = draw_few(random, file);
+        }
+        self
+    }
+
+    /// The case with its file made again, after its build or its seed was changed.
+    fn built_anew(self) -> Case {
+        let ours = match self.asked.any() {
+            true => reads::file::File::of(&self.build, self.seed, &[]).ok(),
+            false => None,
+        };
+        let asked = match (&self.ours, &ours) {
+            (Some(before), Some(now)) => self.asked.moved(before, now),
+            _ => self.asked,
+        };
+        Case { ours, asked, ..self }
+    }
+
+    /// Holds the reads of the file that was built on both sides.
+    fn hold_windows(
+        &self,
+        built: &File,
+        answer: &Answer,
+        counts: &mut reads::counts::Counts,
+    ) -> Result<Vec<Disagreement>, String> {
+        let Some(file) = &self.ours else {
+            return Ok(Vec::new());
+        };
+        if let Some(differs) = file.differs(&built.header, built.sound, &built.trailer) {
+            return Ok(vec![differs]);
+        }
+        let mut held = Held::of(&self.asked, file, self.build.fixed.is_some(), counts);
+        let answered = asked::hold(&mut held, answer, None)?;
+        refused::hold_few(&mut held, &answered);
+        Ok(held.found)
+    }
+}
+
+impl Asks for Case {
+    fn asked(&self) -> &Asked {
+        &self.asked
+    }
+
+    fn asked_mut(&mut self) -> &mut Asked {
+        &mut self.asked
     }
 }
 
 /// What the original built.
 pub struct File {
-    header: Vec<u8>,
-    sound: u64,
-    trailer: Vec<u8>,
+    pub header: Vec<u8>,
+    pub sound: u64,
+    pub trailer: Vec<u8>,
 }
 
 impl File {
@@ -60,7 +123,7 @@ pub enum Outcome {
 }
 
 /// What is wanted, and the original's verdict.
-fn wanted(case: &checks::Case, answer: &Answer) -> Result<(Outcome, Verdict), String> {
+pub fn wanted(case: &checks::Case, answer: &Answer) -> Result<(Outcome, Verdict), String> {
     let [number, detail] = answer.refusal()?;
     let original = Verdict { number, detail };
     match checks::wanted(case, original) {
@@ -84,11 +147,19 @@ impl Subject for Builds {
     }
 
     fn for_original(case: &Case) -> String {
-        Checks::for_original(&case.build)
+        let lines = Checks::for_original(&case.build);
+        match case.asked.any() {
+            true => format!("{lines}seed {}\n{}", case.seed, case.asked.lines()),
+            false => lines,
+        }
     }
 
     fn for_us(case: &Case) -> String {
-        Checks::for_us(&case.build)
+        let lines = Checks::for_us(&case.build);
+        match case.asked.any() {
+            true => format!("{lines}\nseed {}, {}", case.seed, case.asked.told().join("\n")),
+            false => lines,
+        }
     }
 
     fn compare(case: &Case, answer: &Answer, counts: &mut Counts) -> Result<Vec<Disagreement>, String> {
@@ -99,6 +170,9 @@ impl Subject for Builds {
             held.found.extend(figures.differ(file)?);
         }
         counts.count(case, &outcome, &held, original)?;
+        if let (Outcome::Built(file), true) = (&outcome, held.found.is_empty()) {
+            held.found.extend(case.hold_windows(file, answer, &mut counts.reads)?);
+        }
         Ok(held.found)
     }
 
@@ -111,6 +185,15 @@ impl Subject for Builds {
             }
             *case = without;
         }
-        checks::simplify::simplify(&mut case.build, &mut |build| fails(&Case::of(build.clone())))
+        simplify_lists(case, fails)?;
+        keep(case, fails, |case| *case = Case { seed: 0, ..case.clone() }.built_anew())?;
+        let mut build = case.build.clone();
+        let done = checks::simplify::simplify(&mut build, &mut |build| {
+            let simpler = Case { build: build.clone(), ..case.clone() };
+            fails(&simpler.built_anew())
+        });
+        *case = Case { build, ..case.clone() }.built_anew();
+        done?;
+        simplify_windows(case, fails)
     }
 }

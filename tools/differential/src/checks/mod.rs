@@ -83,6 +83,8 @@ pub enum Beyond {
     Outside(Place),
     /// A row that ends too early.
     CutShort(Place),
+    /// One more caller chunk of so many bytes, which no pool has.
+    NoPool(u32),
     /// A text with this value, which is no scalar.
     NoScalar(Place, u32),
     /// Another layout.
@@ -122,7 +124,8 @@ impl Beyond {
     fn refusal(self) -> Option<(u32, u32)> {
         match self {
             Beyond::TrackZero => None,
-            Beyond::Outside(_) | Beyond::CutShort(_) => Some((2, 2)),
+            Beyond::NoPool(length) if length as usize > LONGEST_CALLER_DATA => Some((1, 1)),
+            Beyond::Outside(_) | Beyond::CutShort(_) | Beyond::NoPool(_) => Some((2, 2)),
             Beyond::NoScalar(..) => Some((3, 3)),
             Beyond::Layout(_) => Some((8, 8)),
             Beyond::DsdLengths(_) => Some((9, 9)),
@@ -137,6 +140,7 @@ impl Beyond {
             Beyond::TrackZero => "13: source track 0",
             Beyond::Outside(_) => "2: an extent outside its pool",
             Beyond::CutShort(_) => "2: a row cut short",
+            Beyond::NoPool(_) => "1 or 2: a long caller chunk that no pool has",
             Beyond::NoScalar(..) => "3: no scalar",
             Beyond::Layout(_) => "8: a layout without its channels",
             Beyond::DsdLengths(_) => "9: lengths for DSD",
@@ -321,6 +325,7 @@ impl Inputs {
         match beyond {
             Beyond::TrackZero | Beyond::Layout(_) => {}
             Beyond::Outside(place) => self.row(place, 1),
+            Beyond::NoPool(length) => self.row(Place::Caller, length),
             Beyond::CutShort(place) => {
                 self.row(place, 0);
                 let rows = match place {

@@ -50,6 +50,12 @@ pub fn simplify(case: &mut Case, fails: Fails<'_, Case>) -> Result<(), Halt> {
     keep(case, fails, |case| case.lengths.place = 0)?;
     keep(case, fails, |case| case.lengths.usual = vec![USUAL])?;
     keep(case, fails, |case| case.lengths.usual.truncate(1))?;
+    let now = case.lengths.value;
+    smaller(case, fails, now.into(), now.min(1).into(), |case, now| case.lengths.value = now as u32)?;
+    for number in 0..case.lengths.usual.len() {
+        let now = case.lengths.usual[number];
+        smaller(case, fails, now.into(), now.min(1).into(), |case, now| case.lengths.usual[number] = now as u32)?;
+    }
     let stereo = |case: &mut Case| {
         case.of.config = 0;
         (case.of.properties.channels, case.of.properties.layout) = (2, layout_of(2, 0));

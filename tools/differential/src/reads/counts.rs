@@ -102,7 +102,7 @@ impl Counts {
         add(&mut self.builds[usize::from(case.fixed.is_some())], file, 1);
         if case.fixed == Some(Windows::All) && case.spoilt.is_none() {
             add(&mut self.exhausted, file, 1);
-            add(&mut self.exhausting, file, case.reads.len() as u64);
+            add(&mut self.exhausting, file, case.asked.reads.len() as u64);
         }
         if case.fixed.is_none() {
             let facts = facts(case, file);
@@ -115,13 +115,14 @@ impl Counts {
         }
     }
 
-    pub fn query(&mut self, case: &Case, file: &File, positions: &Range<usize>) {
-        add(&mut self.queries[usize::from(case.fixed.is_some())], file, 1);
+    pub fn query(&mut self, fixed: bool, file: &File, positions: &Range<usize>) {
+        add(&mut self.queries[usize::from(fixed)], file, 1);
         add(&mut self.needed, file, u64::from(!positions.is_empty()));
     }
 
-    pub fn read(&mut self, case: &Case, file: &File, map: &Map, window: Window, positions: &Range<usize>, filled: u64) {
-        add(&mut self.reads[usize::from(case.fixed.is_some())], file, 1);
+    pub fn read(&mut self, fixed: bool, map: &Map, window: Window, positions: &Range<usize>, filled: u64) {
+        let file = map.file;
+        add(&mut self.reads[usize::from(fixed)], file, 1);
         add(&mut self.filled, file, filled);
         add(&mut self.nothing, file, u64::from(filled == 0));
         add(&mut self.short, file, u64::from(filled < window.length));
@@ -151,7 +152,7 @@ impl Counts {
         add(&mut self.wrongly_lent[way], file, 1);
     }
 
-    pub(super) fn spoilt(&mut self, file: &File, original: &Read) {
+    pub fn spoilt(&mut self, file: &File, original: &Read) {
         let way = match original {
             Read::Filled(_) => 0,
             Read::Refused { written } => 1 + usize::from(*written),
@@ -181,17 +182,17 @@ impl Counts {
     }
 }
 
-impl fmt::Display for Counts {
-    fn fmt(&self, f: &mut fmt::Formatter<'_>) -> fmt::Result {
+impl Counts {
+    /// What is said of queries and reads, refused ones too.
+    pub fn windows(&self, f: &mut fmt::Formatter<'_>) -> fmt::Result {
         let mut table = Table::new(f, 38)?;
-        table.line("builds, drawn", &self.builds[0])?;
-        for (name, line) in &self.facts {
-            table.line(&format!("  {name}"), line)?;
-        }
+        self.window_lines(&mut table)?;
+        self.refused_lines(&mut table)?;
+        self.longest(f)
+    }
+
+    fn window_lines(&self, table: &mut Table) -> fmt::Result {
         table.lines(&[
-            ("builds, fixed", &self.builds[1]),
-            ("  of them read exhaustively", &self.exhausted),
-            ("  reads (and queries) of these", &self.exhausting),
             ("queries, drawn", &self.queries[0]),
             ("queries, fixed", &self.queries[1]),
             ("  with positions needed", &self.needed),
@@ -214,26 +215,55 @@ impl fmt::Display for Counts {
         for (way, line) in self.wrongly_lent.iter().enumerate() {
             table.line(&format!("  {}", way_name(way)), line)?;
         }
-        table.line("reads refused with 43, spoilt", &sum(&self.spoilt))?;
-        for (name, line) in SPOILT.iter().zip(&self.spoilt) {
-            table.line(&format!("  the original {name}"), line)?;
-        }
+        Ok(())
+    }
+
+    fn refused_lines(&self, table: &mut Table) -> fmt::Result {
         for (title, of) in [("refused with 42, for", &self.no_file), ("accepted, at a limit of", &self.at_limit)] {
             for (word, lines) in ["queries", "reads"].into_iter().zip(of) {
-                table.line(&format!("{word} {title}"), &sum(lines))?;
+                let all = sum(lines);
+                if all != Line::default() {
+                    table.line(&format!("{word} {title}"), &all)?;
+                }
                 // Only a query can be told the length of a part.
                 for (name, line) in FAULTS.iter().zip(lines).filter(|(_, line)| **line != Line::default()) {
                     table.line(&format!("  {name}"), line)?;
                 }
             }
         }
+        Ok(())
+    }
+
+    fn longest(&self, f: &mut fmt::Formatter<'_>) -> fmt::Result {
+        writeln!(f, "most positions of a read: {}; longest read: {} bytes", self.most_positions, self.longest_read)
+    }
+}
+
+impl fmt::Display for Counts {
+    fn fmt(&self, f: &mut fmt::Formatter<'_>) -> fmt::Result {
+        let mut table = Table::new(f, 38)?;
+        table.line("builds, drawn", &self.builds[0])?;
+        for (name, line) in &self.facts {
+            table.line(&format!("  {name}"), line)?;
+        }
+        table.lines(&[
+            ("builds, fixed", &self.builds[1]),
+            ("  of them read exhaustively", &self.exhausted),
+            ("  reads (and queries) of these", &self.exhausting),
+        ])?;
+        self.window_lines(&mut table)?;
+        table.line("reads refused with 43, spoilt", &sum(&self.spoilt))?;
+        for (name, line) in SPOILT.iter().zip(&self.spoilt) {
+            table.line(&format!("  the original {name}"), line)?;
+        }
+        self.refused_lines(&mut table)?;
         table.lines(&[
             ("lists of reads that cover a file", &self.lists),
             ("  reads in them", &self.list_reads),
             ("  refused reads between", &self.list_refused),
             ("  bytes gathered", &self.list_bytes),
         ])?;
-        writeln!(f, "most positions of a read: {}; longest read: {} bytes", self.most_positions, self.longest_read)?;
+        self.longest(f)?;
         writeln!(f, "builds refused on both sides: {}", self.refused_builds)
     }
 }

@@ -2,6 +2,7 @@
 
 use library::markers::STEREO;
 
+use super::asked::Asked;
 use super::file::File;
 use super::{Case, Window};
 use crate::builds;
@@ -17,6 +18,12 @@ const READS: usize = 1_000;
 const DRAWN_READS: usize = 250;
 const QUERIES: usize = 50;
 
+/// So many windows of a build's file are read in the subject builds, and so many more asked for.
+const FEW_READS: usize = 12;
+const FEW_QUERIES: usize = 4;
+/// A longer one of them is of so many positions of usual length at most.
+const MOST_LENT: u64 = 40;
+
 /// A file of more bytes has few long reads.
 const LONG_FILE: u64 = 20_000;
 
@@ -31,13 +38,37 @@ pub fn draw(random: &mut Random) -> Case {
         contents.push((random.place(build.positions() as usize) as u32, draw_content(random)));
     }
     let mut case = Case::of(build, seed, contents);
-    case.choices = random.word();
+    case.asked.choices = random.word();
     if let Ok(file) = &case.built {
         let boundaries = file.boundaries();
-        case.reads = draw_reads(random, file, &boundaries);
-        case.queries = (0..QUERIES).map(|_| draw_query(random, file, &boundaries)).collect();
+        case.asked.reads = draw_reads(random, file, &boundaries);
+        case.asked.queries = (0..QUERIES).map(|_| draw_query(random, file, &boundaries)).collect();
     }
     case
+}
+
+/// A few windows of any file, which may be long. Their boundaries are of few positions.
+pub fn draw_few(random: &mut Random, file: &File) -> Asked {
+    let boundaries = file.boundaries_of(draw_few_positions(random, file));
+    Asked {
+        reads: (0..FEW_READS).map(|_| draw_limited_read(random, file, &boundaries)).collect(),
+        queries: (0..FEW_QUERIES).map(|_| draw_query(random, file, &boundaries)).collect(),
+        choices: random.word(),
+    }
+}
+
+/// The first position, the last, one between them, and that at 4 GiB of the file if it is so long.
+fn draw_few_positions(random: &mut Random, file: &File) -> Vec<usize> {
+    let count = file.sound.positions();
+    if count == 0 {
+        return Vec::new();
+    }
+    let mut positions = vec![0, random.place(count), count - 1];
+    let far = (1u64 << 32).checked_sub(file.header_bytes());
+    positions.extend(far.and_then(|far| file.sound.position_at(far)));
+    positions.sort_unstable();
+    positions.dedup();
+    positions
 }
 
 /// Mostly one or two channels.
@@ -141,11 +172,36 @@ fn between([one, other]: [u64; 2]) -> Window {
 }
 
 fn draw_read(random: &mut Random, file: &File, boundaries: &[u64]) -> Window {
-    let size = file.size();
-    let long_in = if size > LONG_FILE { 60 } else { 12 };
+    let long_in = if file.size() > LONG_FILE { 60 } else { 12 };
     if random.one_in(long_in) {
         return between([draw_place(random, file, boundaries), draw_place(random, file, boundaries)]);
     }
+    draw_short_read(random, file, boundaries)
+}
+
+/// A read that is mostly short, at times of some thousand bytes, seldom longer.
+fn draw_limited_read(random: &mut Random, file: &File, boundaries: &[u64]) -> Window {
+    let most = match random.between(0, 399) {
+        0 => 70_000,
+        1..=12 => 3_000,
+        13..=24 => 400,
+        _ => return draw_short_read(random, file, boundaries),
+    };
+    if file.size() <= most.into() {
+        return match random.one_in(2) {
+            true => file.whole(),
+            false => between([draw_place(random, file, boundaries), draw_place(random, file, boundaries)]),
+        };
+    }
+    // Not of too many positions, each of which has a content.
+    let position = file.sound_bytes / (file.sound.positions() as u64).max(1);
+    let length = u64::from(random.between(1, most)).min(MOST_LENT * position.max(1));
+    Window { offset: draw_place(random, file, boundaries), length }
+}
+
+/// A read that is short, or of few stretches and of at most 200 bytes.
+fn draw_short_read(random: &mut Random, file: &File, boundaries: &[u64]) -> Window {
+    let size = file.size();
     let short = draw_short(random);
     match random.between(0, 49) {
         0 => Window { offset: u64::MAX - u64::from(random.between(0, 80)), length: short },

@@ -20,13 +20,14 @@ pub fn fixed() -> Vec<Case> {
 fn case(build: Build, windows: Windows) -> Case {
     let mut case = Case::of(build, 17, Vec::new());
     if let Ok(file) = &case.built {
-        case.reads = match windows {
+        case.asked.reads = match windows {
             Windows::All => all_windows(file),
             Windows::Boundaries => boundary_windows(file),
             Windows::Far => far_windows(file),
         };
     }
-    Case { fixed: Some(windows), choices: 1, ..case }
+    case.asked.choices = 1;
+    Case { fixed: Some(windows), ..case }
 }
 
 /// DST of one channel with frames of these lengths, without an index.

@@ -5,9 +5,10 @@ use std::ops::Range;
 
 use library::reads::{self as ours, Format, WRONGLY_LENT};
 
+use super::asked::Asked;
 use super::counts::Counts;
 use super::file::{File, Map};
-use super::{Case, Read, Spoilt, Window, SPOILT};
+use super::{Read, Spoilt, Window, SPOILT};
 use crate::buffer::Buffer;
 use crate::hex;
 use crate::random::Random;
@@ -19,12 +20,14 @@ type Position = (Vec<u8>, Vec<u8>);
 
 /// Our functions held against one answer.
 pub struct Held<'a> {
-    pub case: &'a Case,
+    pub asked: &'a Asked,
     pub file: &'a File,
+    /// Whether the case is one of every run.
+    pub fixed: bool,
     pub random: Random,
     pub counts: &'a mut Counts,
     pub found: Vec<Disagreement>,
-    map: Map,
+    map: Map<'a>,
     /// The positions lent so far, as they are made once only.
     positions: BTreeMap<usize, Position>,
 }
@@ -48,9 +51,10 @@ impl Called {
 const IDLE_LENGTHS: [&[u32]; 4] = [&[], &[0], &[65_537, 3], &[1; 9]];
 
 impl<'a> Held<'a> {
-    pub fn of(case: &'a Case, file: &'a File, counts: &'a mut Counts) -> Held<'a> {
-        let random = Random::of_case(case.choices, 0);
-        Held { case, file, random, counts, found: Vec::new(), map: Map::of(file), positions: BTreeMap::new() }
+    pub fn of(asked: &'a Asked, file: &'a File, fixed: bool, counts: &'a mut Counts) -> Held<'a> {
+        let random = Random::of_case(asked.choices, 0);
+        let (map, positions) = (Map::of(file), BTreeMap::new());
+        Held { asked, file, fixed, random, counts, found: Vec::new(), map, positions }
     }
 
     /// What our functions are told of the sound. What is not looked at is anything.
@@ -100,20 +104,23 @@ impl<'a> Held<'a> {
     /// Adds a disagreement of this kind of file.
     pub fn differs(&mut self, what: &str, expected: String, ours: String) {
         let what = format!("{what}, {}", self.kind());
+        let File { header, sound_bytes, trailer, .. } = self.file;
+        let (header, trailer) = (header.len(), trailer.len());
+        let expected = format!("header {header} bytes, sound {sound_bytes}, trailer {trailer}; {expected}");
         self.found.push(Disagreement { what, expected, ours });
     }
 
     pub fn query(&mut self, window: Window, original: &Range<usize>) {
         let format = self.format();
         self.hold_query("query", format, window, original);
-        self.counts.query(self.case, self.file, original);
+        self.counts.query(self.fixed, self.file, original);
     }
 
     pub fn read(&mut self, window: Window, positions: &Range<usize>, original: &[u8]) {
         let format = self.format();
         let lent = self.lent(positions);
         self.hold_read("read", format, window, &lent, original);
-        self.counts.read(self.case, self.file, &self.map, window, positions, original.len() as u64);
+        self.counts.read(self.fixed, &self.map, window, positions, original.len() as u64);
     }
 
     /// A read that needs a spoilt position: it is to be refused, whatever the original does.

@@ -6,6 +6,7 @@ use std::ops::Range;
 
 use library::reads::{self as ours, Format, NO_FILE, WRONGLY_LENT};
 
+use super::asked::Answered;
 use super::hold::Held;
 use super::Window;
 use crate::random::Random;
@@ -100,12 +101,19 @@ impl<'a> Reads<'a> {
     }
 }
 
-/// All of it for one case, given the positions and the bytes of its reads.
-pub fn hold(held: &mut Held, positions: &[Range<usize>], bytes: &[Vec<u8>]) {
-    if positions.is_empty() {
-        return;
+impl<'a> Reads<'a> {
+    /// `None` if there are no reads.
+    fn of(held: &Held<'a>, answered: &'a Answered) -> Option<Reads<'a>> {
+        let Answered { positions, filled } = answered;
+        (!positions.is_empty()).then_some(Reads { windows: &held.asked.reads, positions, bytes: filled })
     }
-    let reads = Reads { windows: &held.case.reads, positions, bytes };
+}
+
+/// All of it for one case.
+pub fn hold(held: &mut Held, answered: &Answered) {
+    let Some(reads) = Reads::of(held, answered) else {
+        return;
+    };
     for _ in 0..WRONGLY_LENT_READS {
         held.wrongly_lent(&reads);
     }
@@ -116,6 +124,34 @@ pub fn hold(held: &mut Held, positions: &[Range<usize>], bytes: &[Vec<u8>]) {
     held.position_counts(&reads);
     held.no_positions();
     held.part_lengths(&reads);
+}
+
+/// A little of it: two reads wrongly lent, and one of what is no file.
+pub fn hold_few(held: &mut Held, answered: &Answered) {
+    let Some(reads) = Reads::of(held, answered) else {
+        return;
+    };
+    for _ in 0..2 {
+        held.wrongly_lent(&reads);
+    }
+    let dst = held.file.sound.is_dst();
+    match held.random.one_in(2) {
+        true => {
+            let any = held.random.between(8, 254) as u8;
+            let channels = held.random.pick(&[0, 7, 255, any]);
+            held.wrong_channels(&reads, channels);
+        }
+        false if dst => {
+            let any = held.random.between(LONGEST_FRAME + 1, u32::MAX);
+            let length = held.random.pick(&[0, LONGEST_FRAME + 1, any]);
+            held.wrong_length(&reads, length);
+        }
+        false => {
+            let any = held.random.between(MOST_POSITIONS as u32 + 1, u32::MAX);
+            let positions = held.random.pick(&[MOST_POSITIONS as u32 + 1, u32::MAX, any]);
+            held.too_many_positions(&reads, positions);
+        }
+    }
 }
 
 impl Held<'_> {
@@ -155,26 +191,22 @@ impl Held<'_> {
     fn channels(&mut self, reads: &Reads) {
         let any = self.random.between(8, 254) as u8;
         for channels in [0, 7, 255, any] {
-            let read = reads.pick(&mut self.random);
-            let format = Format { channels, ..self.format() };
-            self.no_file(Fault::Channels, format, &read);
+            self.wrong_channels(reads, channels);
         }
     }
 
-    /// A length outside its limits, mostly where it is not needed, and one at them further back in the sound.
+    fn wrong_channels(&mut self, reads: &Reads, channels: u8) {
+        let read = reads.pick(&mut self.random);
+        let format = Format { channels, ..self.format() };
+        self.no_file(Fault::Channels, format, &read);
+    }
+
+    /// Lengths outside their limits, and those at them further back in the sound.
     fn frame_lengths(&mut self, reads: &Reads) {
         let count = self.file.sound.positions();
         let any = self.random.between(LONGEST_FRAME + 1, u32::MAX);
         for length in [0, LONGEST_FRAME + 1, any] {
-            let outside = reads.pick_where(&mut self.random, |read| read.positions.len() < count);
-            let read = outside.unwrap_or_else(|| reads.pick(&mut self.random));
-            let format = self.format();
-            let mut lengths = format.lengths.to_vec();
-            // So many places after the last needed one, coming round before the first; seldom among the needed ones.
-            let unneeded = (count - read.positions.len()).max(1);
-            let further = if self.random.one_in(5) { self.random.place(count) } else { self.random.place(unneeded) };
-            lengths[(read.positions.end + further) % count] = length;
-            self.no_file(Fault::Length, Format { lengths: &lengths, ..format }, &read);
+            self.wrong_length(reads, length);
         }
         let sound_end = self.file.sound_end();
         for length in [1, LONGEST_FRAME] {
@@ -187,15 +219,34 @@ impl Held<'_> {
         }
     }
 
+    /// A length outside its limits, mostly where it is not needed.
+    fn wrong_length(&mut self, reads: &Reads, length: u32) {
+        let count = self.file.sound.positions();
+        let outside = reads.pick_where(&mut self.random, |read| read.positions.len() < count);
+        let read = outside.unwrap_or_else(|| reads.pick(&mut self.random));
+        let format = self.format();
+        let mut lengths = format.lengths.to_vec();
+        // So many places after the last needed one, coming round before the first; seldom among the needed ones.
+        let unneeded = (count - read.positions.len()).max(1);
+        let further = if self.random.one_in(5) { self.random.place(count) } else { self.random.place(unneeded) };
+        lengths[(read.positions.end + further) % count] = length;
+        self.no_file(Fault::Length, Format { lengths: &lengths, ..format }, &read);
+    }
+
+    /// Of DSD.
+    fn too_many_positions(&mut self, reads: &Reads, positions: u32) {
+        let read = reads.pick(&mut self.random);
+        let format = Format { positions, ..self.format() };
+        self.no_file(Fault::Positions, format, &read);
+    }
+
     /// Too many positions, and as many as there can be.
     fn position_counts(&mut self, reads: &Reads) {
         let sound_end = self.file.sound_end();
         let inside = reads.pick_where(&mut self.random, |read| read.window.end() <= sound_end);
         if !self.file.sound.is_dst() {
             for positions in [MOST_POSITIONS as u32 + 1, u32::MAX] {
-                let read = reads.pick(&mut self.random);
-                let format = Format { positions, ..self.format() };
-                self.no_file(Fault::Positions, format, &read);
+                self.too_many_positions(reads, positions);
             }
             if let Some(read) = inside {
                 let format = Format { positions: MOST_POSITIONS as u32, ..self.format() };

@@ -1,18 +1,13 @@
 //! Making a failing case simpler.
 
-use std::ops::Range;
-
-use super::{Case, Window};
+use super::asked::{simplify_lists, simplify_windows};
+use super::Case;
 use crate::checks::simplify::simplify as simplify_build;
-use crate::subject::{keep, simplify_list, smaller, Fails, Halt};
+use crate::subject::{keep, Fails, Halt};
 
 pub fn simplify(case: &mut Case, fails: Fails<'_, Case>) -> Result<(), Halt> {
-    keep(case, fails, |case| case.reads.clear())?;
-    keep(case, fails, |case| case.queries.clear())?;
-    simplify_list(case, |case| case.reads.len(), |case, gone| without(case, gone, |case| &mut case.reads), fails)?;
-    simplify_list(case, |case| case.queries.len(), |case, gone| without(case, gone, |case| &mut case.queries), fails)?;
+    simplify_lists(case, fails)?;
     keep(case, fails, |case| case.spoilt = None)?;
-    keep(case, fails, |case| case.choices = 0)?;
     keep(case, fails, |case| anew(case, |case| case.contents.clear()))?;
     keep(case, fails, |case| anew(case, |case| case.seed = 0))?;
 
@@ -24,14 +19,7 @@ pub fn simplify(case: &mut Case, fails: Fails<'_, Case>) -> Result<(), Halt> {
     anew(case, |case| case.build = build);
     done?;
 
-    for list in [(|case| &mut case.reads) as fn(&mut Case) -> &mut Vec<Window>, |case| &mut case.queries] {
-        for number in 0..list(case).len() {
-            let Window { offset, length } = list(case)[number];
-            smaller(case, fails, length, 0, |case, length| list(case)[number].length = length)?;
-            smaller(case, fails, offset, 0, |case, offset| list(case)[number].offset = offset)?;
-        }
-    }
-    Ok(())
+    simplify_windows(case, fails)
 }
 
 /// Changes the build or its frames.
@@ -39,10 +27,4 @@ fn anew(case: &mut Case, change: impl FnOnce(&mut Case)) {
     let mut changed = case.clone();
     change(&mut changed);
     *case = changed.built_anew();
-}
-
-fn without(case: &Case, gone: Range<usize>, list: fn(&mut Case) -> &mut Vec<Window>) -> Option<Case> {
-    let mut simpler = case.clone();
-    list(&mut simpler).drain(gone);
-    Some(simpler)
 }

@@ -1,6 +1,7 @@
 //! A file of a case: how the original is asked for it, and what is known of its sound beforehand.
 
 use std::iter;
+use std::ops::Range;
 
 use crate::hex;
 
@@ -96,18 +97,32 @@ impl File {
         }
     }
 
+    /// The stretches of a position, in order, with their lengths.
+    pub fn stretches_of(&self, position: usize) -> impl Iterator<Item = (Part, u64)> {
+        let (content, dstf, length) = match &self.kind {
+            Kind::Dsd { .. } => (self.content_bytes() as u64, 0, 0),
+            Kind::Dst { lengths, .. } => (0, 12, u64::from(lengths[position])),
+        };
+        let (dstc, crc) = if self.crc() { (12, 4) } else { (0, 0) };
+        let frame = [(Part::FrameHeader, dstf), (Part::Frame, length), (Part::Pad, length % 2)];
+        let stretches = [(Part::Content, content)].into_iter().chain(frame);
+        stretches.chain([(Part::CrcHeader, dstc), (Part::Crc, crc)]).filter(|&(_, length)| length > 0)
+    }
+
     /// The stretches of the sound, in order, with their lengths.
     pub fn stretches(&self) -> impl Iterator<Item = (Part, u64)> + '_ {
-        let contents = if self.is_dst() { 0 } else { self.positions() };
-        let contents = iter::repeat_n((Part::Content, self.content_bytes() as u64), contents);
-        let crc = self.crc();
-        let units = self.lengths().iter().flat_map(move |&length| {
-            let length = u64::from(length);
-            let dstf = [(Part::FrameHeader, 12), (Part::Frame, length), (Part::Pad, length % 2)];
-            let dstc = [(Part::CrcHeader, 12), (Part::Crc, 4)];
-            dstf.into_iter().chain(dstc.into_iter().filter(move |_| crc))
-        });
-        contents.chain(units).filter(|&(_, length)| length > 0)
+        (0..self.positions()).flat_map(|position| self.stretches_of(position))
+    }
+
+    /// How many bytes of the sound these positions have.
+    pub fn bytes_of(&self, positions: Range<usize>) -> u64 {
+        match &self.kind {
+            Kind::Dsd { .. } => (positions.len() * self.content_bytes()) as u64,
+            Kind::Dst { lengths, crc, .. } => {
+                let dstc = if *crc { 16 } else { 0 };
+                lengths[positions].iter().map(|&length| 12 + u64::from(length + length % 2) + dstc).sum()
+            }
+        }
     }
 
     /// Where the stretches start, and where the sound ends.
@@ -120,8 +135,38 @@ impl File {
         iter::once(0).chain(ends).collect()
     }
 
+    /// Where the stretches of these positions start and end. The positions go up.
+    pub fn boundaries_of(&self, positions: impl IntoIterator<Item = usize>) -> Vec<u64> {
+        let (mut boundaries, mut next, mut place) = (Vec::new(), 0, 0);
+        for position in positions {
+            place += self.bytes_of(next..position);
+            next = position + 1;
+            boundaries.push(place);
+            for (_, length) in self.stretches_of(position) {
+                place += length;
+                boundaries.push(place);
+            }
+        }
+        boundaries
+    }
+
     pub fn sound_bytes(&self) -> u64 {
-        self.stretches().map(|(_, length)| length).sum()
+        self.bytes_of(0..self.positions())
+    }
+
+    /// The position that a place of the sound belongs to; `None` past the sound.
+    pub fn position_at(&self, place: u64) -> Option<usize> {
+        if place >= self.sound_bytes() {
+            return None;
+        }
+        if !self.is_dst() {
+            return Some(place as usize / self.content_bytes());
+        }
+        let mut end = 0;
+        (0..self.positions()).find(|&position| {
+            end += self.bytes_of(position..position + 1);
+            place < end
+        })
     }
 
     /// What the byte at a place of the sound belongs to; `None` past the sound.

@@ -1,0 +1,231 @@
+// A recorded build, built again.
+use crate::answer;
+use crate::answer::Wanted;
+use crate::buffers;
+use crate::buffers::same;
+use crate::counts;
+use crate::inputs;
+use crate::inputs::Lists;
+use crate::number::count;
+use crate::unpack_bytes;
+use crate::unpack_words;
+
+// Whether all is as recorded, and where the record ends.
+pub struct Outcome {
+    pub agrees: bool,
+    pub end: usize,
+}
+
+// With buffers of which the first so many bytes are lent.
+fn build_short(
+    rows: &[u32],
+    raw: &[u8],
+    lists: Lists,
+    wanted: Wanted,
+    header: &mut [u8],
+    header_room: usize,
+    trailer: &mut [u8],
+    trailer_room: usize,
+) -> bool {
+    if header_room > header.len() {
+        return false;
+    }
+    if trailer_room > trailer.len() {
+        return false;
+    }
+    let given = inputs::build(
+        rows,
+        raw,
+        lists,
+        &mut header[0..header_room],
+        &mut trailer[0..trailer_room],
+    );
+    answer::holds(wanted, given, header_room, trailer_room)
+}
+
+// With a buffer that is one byte short, first for the header, then for the trailer, if it is built and has one. The buffers are to stay.
+fn refused_short(
+    counts: &mut [usize],
+    rows: &[u32],
+    raw: &[u8],
+    lists: Lists,
+    wanted: Wanted,
+    header: &mut [u8],
+    trailer: &mut [u8],
+) -> bool {
+    if wanted.number != 0 {
+        return true;
+    }
+    let values = wanted.values;
+    let in_header = count(values[0]);
+    let in_trailer = count(values[2]);
+    if in_header == 0 {
+        return false;
+    }
+    if !build_short(
+        rows,
+        raw,
+        lists,
+        wanted,
+        header,
+        in_header - 1,
+        trailer,
+        in_trailer,
+    ) {
+        return false;
+    }
+    counts::add(counts, counts::SHORT, 1);
+    if in_trailer == 0 {
+        return true;
+    }
+    counts::add(counts, counts::SHORT, 1);
+    build_short(
+        rows,
+        raw,
+        lists,
+        wanted,
+        header,
+        in_header,
+        trailer,
+        in_trailer - 1,
+    )
+}
+
+// The recorded header and trailer, into two buffers. Where the record ends, and whether they have the recorded lengths.
+fn recorded(file: &[u8], wanted: Wanted, header: &mut [u8], trailer: &mut [u8]) -> Outcome {
+    if wanted.number != 0 {
+        return Outcome {
+            agrees: true,
+            end: wanted.at,
+        };
+    }
+    let h = unpack_bytes::unpack(file, wanted.at, header);
+    let t = unpack_bytes::unpack(file, h.at, trailer);
+    let values = wanted.values;
+    Outcome {
+        agrees: (h.count == count(values[0])) & (t.count == count(values[2])),
+        end: t.at,
+    }
+}
+
+fn tally_bytes(counts: &mut [usize], wanted: Wanted) {
+    if wanted.number == 0 {
+        let values = wanted.values;
+        counts::add(counts, counts::BYTES, count(values[0]));
+        counts::add(counts, counts::BYTES, count(values[2]));
+    }
+}
+
+fn tally(counts: &mut [usize], wanted: Wanted, agrees: bool) {
+    counts::add(counts, count(wanted.number), 1);
+    counts::add_if(counts, counts::BUILT, wanted.number == 0);
+    counts::add_if(counts, counts::REFUSED, wanted.number != 0);
+    counts::add_if(counts, counts::ALONE, wanted.alone);
+    if agrees {
+        counts::add(counts, counts::BUILDS_AGREE, 1);
+        tally_bytes(counts, wanted);
+    }
+}
+
+// Whether it is built as recorded: the answer, and both buffers.
+fn is_built(
+    rows: &[u32],
+    raw: &[u8],
+    lists: Lists,
+    wanted: Wanted,
+    header: &mut [u8],
+    trailer: &mut [u8],
+    wanted_header: &[u8],
+    wanted_trailer: &[u8],
+) -> bool {
+    let given = inputs::build(rows, raw, lists, header, trailer);
+    answer::holds(wanted, given, header.len(), trailer.len())
+        & same(header, wanted_header)
+        & same(trailer, wanted_trailer)
+}
+
+// The buffers hold FILL, those for the recorded header and trailer too, which are as long.
+fn compare(
+    file: &[u8],
+    counts: &mut [usize],
+    rows: &[u32],
+    raw: &[u8],
+    wanted: Wanted,
+    header: &mut [u8],
+    trailer: &mut [u8],
+    wanted_header: &mut [u8],
+    wanted_trailer: &mut [u8],
+) -> Outcome {
+    let lists = inputs::find(rows);
+    let refused = refused_short(counts, rows, raw, lists, wanted, header, trailer);
+    let stay = same(header, wanted_header) & same(trailer, wanted_trailer);
+    let found = recorded(file, wanted, wanted_header, wanted_trailer);
+    let built = is_built(
+        rows,
+        raw,
+        lists,
+        wanted,
+        header,
+        trailer,
+        wanted_header,
+        wanted_trailer,
+    );
+    Outcome {
+        agrees: refused & stay & found.agrees & built,
+        end: found.end,
+    }
+}
+
+fn counted(
+    file: &[u8],
+    at: usize,
+    counts: &mut [usize],
+    rows: &[u32],
+    raw: &[u8],
+    header: &mut [u8],
+    trailer: &mut [u8],
+    wanted_header: &mut [u8],
+    wanted_trailer: &mut [u8],
+) -> Outcome {
+    let wanted = answer::read(file, at);
+    let o = compare(
+        file,
+        counts,
+        rows,
+        raw,
+        wanted,
+        header,
+        trailer,
+        wanted_header,
+        wanted_trailer,
+    );
+    tally(counts, wanted, o.agrees);
+    o
+}
+
+// The record at `at`, behind its kind.
+pub fn run(
+    file: &[u8],
+    at: usize,
+    counts: &mut [usize],
+    rows: &mut [u32],
+    raw: &mut [u8],
+    header: &mut [u8],
+    trailer: &mut [u8],
+    wanted_header: &mut [u8],
+    wanted_trailer: &mut [u8],
+) -> Outcome {
+    let words = unpack_words::unpack(file, at, rows);
+    let in_raw = unpack_bytes::unpack(file, words.at, raw);
+    counted(
+        file,
+        in_raw.at,
+        counts,
+        rows,
+        buffers::front(raw, in_raw.count),
+        header,
+        trailer,
+        wanted_header,
+        wanted_trailer,
+    )
+}

@@ -1,0 +1,52 @@
+// What is counted: refusals by their numbers, and from 64 on what else there is.
+use crate::number::plus;
+
+pub const ROOM: usize = 80;
+
+pub const BUILT: usize = 64;
+
+pub const REFUSED: usize = 65;
+
+pub const BUILDS_AGREE: usize = 66;
+
+// Bytes of headers and trailers as recorded.
+pub const BYTES: usize = 67;
+
+// Builds with a buffer that is one byte short, refused as they are to be.
+pub const SHORT: usize = 68;
+
+pub const QUERIES: usize = 69;
+
+pub const QUERIES_AGREE: usize = 70;
+
+pub const FILLED: usize = 71;
+
+pub const NOT_FILLED: usize = 72;
+
+pub const READS_AGREE: usize = 73;
+
+// Bytes filled as recorded.
+pub const FILLED_BYTES: usize = 74;
+
+// Answers that are by document 01 alone.
+pub const ALONE: usize = 75;
+
+pub fn add(counts: &mut [usize], k: usize, n: usize) {
+    if k < counts.len() {
+        counts[k] = plus(counts[k], n);
+    }
+}
+
+// One more if it is so.
+pub fn add_if(counts: &mut [usize], k: usize, is: bool) {
+    if is {
+        add(counts, k, 1);
+    }
+}
+
+pub fn get(counts: &[usize], k: usize) -> usize {
+    if k < counts.len() {
+        return counts[k];
+    }
+    0
+}

@@ -1,0 +1,73 @@
+//! The record of a build.
+
+use library::builds::{HEADER_SHORT, TRAILER_SHORT};
+use library::checks::{Verdict, WORDS};
+
+use super::pack;
+use crate::builds::{File, Outcome};
+use crate::checks::Inputs;
+
+// The kinds of record.
+const BUILD: u64 = 0;
+const LARGE_BUILD: u64 = 1;
+
+/// What the program that answers again has room for: words, bytes of raw and header, bytes of a trailer.
+struct Room {
+    words: usize,
+    bytes: usize,
+    trailer: usize,
+}
+
+const SMALL: Room = Room { words: 2_048, bytes: 8_192, trailer: 8_192 };
+const LARGE: Room = Room { words: 600_000, bytes: 66_560, trailer: 8_192 };
+
+/// All words of a build, lists with their counts in front.
+fn all_words(inputs: &Inputs) -> Vec<u32> {
+    let Inputs { words, pool, tracks, markers, comments, callers, lengths, .. } = inputs;
+    // Words past the end count as 0, and further ones not at all.
+    let mut all: Vec<u32> = words.iter().copied().chain([0; WORDS]).take(WORDS).collect();
+    for list in [pool, tracks, markers, comments, callers, lengths] {
+        all.push(list.len() as u32);
+        all.extend(list);
+    }
+    all
+}
+
+/// The record, unless the build is too large. `alone` says that the answer is by document 01, not by the original.
+pub fn record(inputs: &Inputs, outcome: &Outcome, alone: bool) -> Option<Vec<u8>> {
+    let words = all_words(inputs);
+    let fits = |room: &Room| words.len() <= room.words && inputs.raw.len() <= room.bytes;
+    let (kind, room) = match (fits(&SMALL), fits(&LARGE)) {
+        (true, _) => (BUILD, SMALL),
+        (false, true) => (LARGE_BUILD, LARGE),
+        (false, false) => return None,
+    };
+    let mut out = Vec::new();
+    pack::number(&mut out, kind);
+    pack::words(&mut out, &words);
+    pack::bytes(&mut out, &inputs.raw);
+    pack::number(&mut out, alone.into());
+    match outcome {
+        Outcome::Refused(Verdict { number, detail }) => {
+            pack::number(&mut out, (*number).into());
+            pack::number(&mut out, (*detail).into());
+        }
+        // What there is no room for is told by its length.
+        Outcome::Built(File { header, .. }) if header.len() > room.bytes => {
+            pack::number(&mut out, HEADER_SHORT);
+            pack::number(&mut out, header.len() as u64);
+        }
+        Outcome::Built(File { trailer, .. }) if trailer.len() > room.trailer => {
+            pack::number(&mut out, TRAILER_SHORT);
+            pack::number(&mut out, trailer.len() as u64);
+        }
+        Outcome::Built(File { header, sound, trailer }) => {
+            for value in [0, header.len() as u64, *sound, trailer.len() as u64] {
+                pack::number(&mut out, value);
+            }
+            pack::bytes(&mut out, header);
+            pack::bytes(&mut out, trailer);
+        }
+    }
+    Some(out)
+}
