@@ -11,7 +11,7 @@ usage: run.sh [OPTION VALUE]..
   --subject NAME   one of text, markers, sound, checks, builds, reads alone
   --failing FILE   where its smallest failing case is saved (target/differential/smallest-NAME.txt)
   --replay FILE    compare only the case that was saved in FILE, again
-  --record FILE    compare nothing, write builds with the original's answers
+  --record FILE    compare nothing, write a sample of the original's answers
   --request DIR    the folder of the request (../shared beside the repository's root)
   --library FILE   this archive instead of that of `rt staticlib abi`
 END

@@ -52,6 +52,7 @@ def refusal_1(add):
     add("r01-emid-65535", "emid 41*65535", "accepted 9552")
     add("r01-emid-65536", "emid 41*65536", "accepted 9552")
     add("r01-emid-65536-written", "emid 41*65536;info 1")
+    add("r01-emid-65536-off", "emid 41*65536;emid_written 0", "accepted 9552")
     add("r01-marker-text-65536", "marker 0 4 0 41*65536", "accepted 9552")
     add("r01-marker-text-65536-written", "marker 0 4 0 41*65536;info 1")
     add("r01-tracks-255", times("track 0 1", 255), "accepted 9552")

@@ -172,7 +172,8 @@ def check_amounts(case):
     texts += case.tags.values()
     texts += [comment.text for comment in case.comments]
     texts += [marker.text for marker in markers]
-    texts.append(case.emid)
+    # Switched off, it is no text.
+    texts.append(case.emid if case.emid_written else b"")
     refuse_if(any(len(text) > LONGEST_TEXT for text in texts), 1)
     refuse_if(len(case.tracks) > MOST_TRACKS, 1)
     refuse_if(len(case.callers) > MOST_CALLERS, 1)

@@ -7,8 +7,7 @@ use crate::counts;
 use crate::inputs;
 use crate::inputs::Lists;
 use crate::number::count;
-use crate::unpack_bytes;
-use crate::unpack_words;
+use crate::unpack;
 
 // Whether all is as recorded, and where the record ends.
 pub struct Outcome {
@@ -99,8 +98,8 @@ fn recorded(file: &[u8], wanted: Wanted, header: &mut [u8], trailer: &mut [u8]) 
             end: wanted.at,
         };
     }
-    let h = unpack_bytes::unpack(file, wanted.at, header);
-    let t = unpack_bytes::unpack(file, h.at, trailer);
+    let h = unpack::bytes(file, wanted.at, header);
+    let t = unpack::bytes(file, h.at, trailer);
     let values = wanted.values;
     Outcome {
         agrees: (h.count == count(values[0])) & (t.count == count(values[2])),
@@ -215,8 +214,8 @@ pub fn run(
     wanted_header: &mut [u8],
     wanted_trailer: &mut [u8],
 ) -> Outcome {
-    let words = unpack_words::unpack(file, at, rows);
-    let in_raw = unpack_bytes::unpack(file, words.at, raw);
+    let words = unpack::words(file, at, rows);
+    let in_raw = unpack::bytes(file, words.at, raw);
     counted(
         file,
         in_raw.at,

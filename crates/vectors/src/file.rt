@@ -1,6 +1,6 @@
 // The file that windows are of.
 use crate::number::take;
-use crate::unpack_bytes;
+use crate::unpack;
 use read_rules::format::SoundFormat;
 use single_words::word::byte;
 use single_words::word::is_set;
@@ -24,8 +24,8 @@ fn sides(file: &[u8], at: usize, has_bytes: bool, header: &mut [u8], trailer: &m
     if !has_bytes {
         return at;
     }
-    let h = unpack_bytes::unpack(file, at, header);
-    let t = unpack_bytes::unpack(file, h.at, trailer);
+    let h = unpack::bytes(file, at, header);
+    let t = unpack::bytes(file, h.at, trailer);
     t.at
 }
 

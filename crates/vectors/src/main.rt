@@ -1,7 +1,7 @@
 // Builds, asks and reads again what the original has answered, and compares. The file data/answers has the records, written by tools/differential; the file stdout
-// holds what is to be printed where all agree. A number is written in groups of 7 bits, the highest first, the last one in a byte below 128. A packed list begins with
-// how many pieces it has; a piece is twice a count, and so many elements (numbers, or bytes); or twice a count and one more, and how far back so many elements are
-// copied from. First how many records there are. A record begins with its kind:
+// holds what is to be printed where all agree. A number is written in groups of 7 bits, the highest first, the last one in a byte below 128. A packed list, of numbers or
+// of bytes, begins with how many pieces it has; a piece is twice a count, and so many numbers; or twice a count and one more, and how far back so many are copied
+// from. First how many records there are. A record begins with its kind:
 // 0, 1  a build, of more words for 1: all its words, packed: 67, then pool, tracks, markers, comments, callers and lengths, each with its count in front; raw, packed;
 //       the answer: 1 if it is by document 01 alone, 0 if it is the original's too; the number of the refusal and its detail; or 0, the lengths of header, sound and
 //       trailer, and header and trailer, packed. A header or a trailer of more bytes than there is room for here is recorded as 40 or 41 with its length
@@ -10,8 +10,7 @@
 //       and length; the first position needed and one past the last; how many lengths, bytes of DST frames and bytes of content are lent; 1 or 0 as above; the number
 //       of the refusal, or 0 and the bytes that are filled, packed
 mod number; // number.rt: numbers of the file
-mod unpack_words; // unpack_words.rt: packed lists of numbers
-mod unpack_bytes; // unpack_bytes.rt: packed lists of bytes
+mod unpack; // unpack.rt: packed lists of numbers, and of bytes
 mod lists; // lists.rt: lists of words
 mod buffers; // buffers.rt: buffers, what they hold before a call, the first bytes of one
 mod counts; // counts.rt: what is counted

@@ -10,8 +10,8 @@ use crate::lists;
 use crate::number::count;
 use crate::number::plus;
 use crate::number::take;
-use crate::unpack_bytes;
-use crate::unpack_words::Unpacked;
+use crate::unpack;
+use crate::unpack::Unpacked;
 use crate::window;
 use crate::window::Window;
 use read_answer::answer::ReadAnswer;
@@ -75,7 +75,7 @@ fn recorded(file: &[u8], w: Window, wanted: &mut [u8]) -> Unpacked {
     if w.number != 0 {
         return Unpacked { at: w.at, count: 0 };
     }
-    unpack_bytes::unpack(file, w.at, wanted)
+    unpack::bytes(file, w.at, wanted)
 }
 
 fn answers(

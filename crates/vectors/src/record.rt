@@ -8,7 +8,7 @@ use crate::lists;
 use crate::number::PAST;
 use crate::number::take;
 use crate::reads;
-use crate::unpack_words;
+use crate::unpack;
 
 // Room for the words and for the other lists of most records.
 const WORDS: usize = 2_048;
@@ -64,7 +64,7 @@ fn windows(file: &[u8], at: usize, counts: &mut [usize]) -> Outcome {
     let mut rows = [0u32; WORDS];
     let mut header = [FILL; ROOM];
     let mut trailer = [FILL; ROOM];
-    let words = unpack_words::unpack(file, at, &mut rows);
+    let words = unpack::words(file, at, &mut rows);
     let f = file::read(file, words.at, &rows, &mut header, &mut trailer);
     reads::run(
         file,
