@@ -1,5 +1,5 @@
-# For the run.sh of the tools beside: `prepare` has the original built in target/oracle and the library in target/staticlib, and sets
-# JANGQERUZ_LIBRARY for cargo. Wants `root`, `request` and `library` (empty: build it).
+# For the run.sh of the tools beside: `prepare` has the original built in target/oracle and does what `prepare_library` does: it has the library
+# in target/staticlib, and sets JANGQERUZ_LIBRARY for cargo. Wanted are `root` and `library` (empty: build it), of `prepare` also `request`.
 
 failed() {
     echo "run.sh: $1" >&2
@@ -11,6 +11,10 @@ prepare() {
         env -u CARGO_TARGET_DIR "$request/oracle/build.sh" "$request/docs/src" "$root/target/oracle" >&2 ||
             failed "the original could not be built"
     fi
+    prepare_library
+}
+
+prepare_library() {
     if [ -z "$library" ]; then
         (cd "$root" && rt staticlib abi) >&2 || failed "the library could not be built"
         library=$root/target/staticlib/libabi.a

@@ -31,13 +31,7 @@ done
 [ -x "$python" ] || failed "no $python; the Debian package is python3"
 "$python" -B "$here/check/main.py" || exit 2
 
-if [ -z "$library" ]; then
-    (cd "$root" && rt staticlib abi) >&2 || failed "the library could not be built"
-    library=$root/target/staticlib/libabi.a
-fi
-[ -f "$library" ] || failed "no such file: $library"
-JANGQERUZ_LIBRARY=$(cd "$(dirname "$library")" && pwd)/$(basename "$library")
-export JANGQERUZ_LIBRARY
+prepare_library
 build readers
 
 mkdir -p "$out" || failed "no folder $out"

@@ -8,6 +8,12 @@ use crate::inputs;
 use crate::inputs::Lists;
 use crate::number::count;
 use crate::unpack;
+use single_words::word::is_set;
+
+// Where among the words the kind of sound stands, and the switch of CRCs.
+const SOUND: usize = 0;
+
+const CRC: usize = 18;
 
 // Whether all is as recorded, and where the record ends.
 pub struct Outcome {
@@ -107,23 +113,30 @@ fn recorded(file: &[u8], wanted: Wanted, header: &mut [u8], trailer: &mut [u8]) 
     }
 }
 
-fn tally_bytes(counts: &mut [usize], wanted: Wanted) {
-    if wanted.number == 0 {
-        let values = wanted.values;
+fn tally_built(counts: &mut [usize], rows: &[u32], wanted: Wanted, agrees: bool) {
+    let values = wanted.values;
+    counts::add(counts, counts::BUILT, 1);
+    counts::add_kind(
+        counts,
+        counts::BUILT_KINDS,
+        is_set(rows, SOUND),
+        is_set(rows, CRC),
+    );
+    if agrees {
         counts::add(counts, counts::BYTES, count(values[0]));
         counts::add(counts, counts::BYTES, count(values[2]));
     }
 }
 
-fn tally(counts: &mut [usize], wanted: Wanted, agrees: bool) {
+fn tally(counts: &mut [usize], rows: &[u32], wanted: Wanted, agrees: bool) {
     counts::add(counts, count(wanted.number), 1);
-    counts::add_if(counts, counts::BUILT, wanted.number == 0);
-    counts::add_if(counts, counts::REFUSED, wanted.number != 0);
     counts::add_if(counts, counts::ALONE, wanted.alone);
-    if agrees {
-        counts::add(counts, counts::BUILDS_AGREE, 1);
-        tally_bytes(counts, wanted);
+    counts::add_if(counts, counts::BUILDS_AGREE, agrees);
+    if wanted.number == 0 {
+        tally_built(counts, rows, wanted, agrees);
+        return;
     }
+    counts::add(counts, counts::REFUSED, 1);
 }
 
 // Whether it is built as recorded: the answer, and both buffers.
@@ -198,7 +211,7 @@ fn counted(
         wanted_header,
         wanted_trailer,
     );
-    tally(counts, wanted, o.agrees);
+    tally(counts, rows, wanted, o.agrees);
     o
 }
 

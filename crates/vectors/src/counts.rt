@@ -1,7 +1,7 @@
 // What is counted: refusals by their numbers, and from 64 on what else there is.
 use crate::number::plus;
 
-pub const ROOM: usize = 80;
+pub const ROOM: usize = 82;
 
 pub const BUILT: usize = 64;
 
@@ -30,6 +30,23 @@ pub const FILLED_BYTES: usize = 74;
 
 // Answers that are by document 01 alone.
 pub const ALONE: usize = 75;
+
+// Builds that are built, of DSD; of DST and of DST with CRCs at the next two.
+pub const BUILT_KINDS: usize = 76;
+
+// Windows, likewise.
+pub const WINDOW_KINDS: usize = 79;
+
+// One more of this kind of sound, where the first kind is counted at k.
+pub fn add_kind(counts: &mut [usize], k: usize, dst: bool, crc: bool) {
+    if !dst {
+        add(counts, k, 1);
+    } else if crc {
+        add(counts, plus(k, 2), 1);
+    } else {
+        add(counts, plus(k, 1), 1);
+    }
+}
 
 pub fn add(counts: &mut [usize], k: usize, n: usize) {
     if k < counts.len() {

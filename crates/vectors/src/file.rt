@@ -9,8 +9,9 @@ use single_words::word::word;
 // Where the count of the lengths stands among the words.
 pub const LENGTHS: usize = 5;
 
-// The sound, the seed of its bytes, the lengths of header and trailer, whether these are recorded, and where the windows begin.
+// Whether it is DST; the sound, the seed of its bytes, the lengths of header and trailer, whether these are recorded, and where the windows begin.
 pub struct File {
+    pub dst: bool,
     pub format: SoundFormat,
     pub seed: u32,
     pub header: u64,
@@ -35,6 +36,7 @@ pub fn read(file: &[u8], at: usize, rows: &[u32], header: &mut [u8], trailer: &m
     let has_bytes = take(file, in_trailer.at);
     let behind = sides(file, has_bytes.at, has_bytes.value != 0, header, trailer);
     File {
+        dst: is_set(rows, 0),
         format: SoundFormat {
             sound: meanings::property::sound(is_set(rows, 0)),
             crc: is_set(rows, 1),

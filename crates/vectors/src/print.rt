@@ -31,11 +31,20 @@ pub fn end(at: usize, ends: bool) {
     }
 }
 
+// How many are of each kind of sound, the first counted at k.
+fn kinds(counts: &[usize], k: usize) {
+    put(b" (DSD: ", get(counts, k));
+    put(b", DST: ", get(counts, plus(k, 1)));
+    put(b", DST with CRCs: ", get(counts, plus(k, 2)));
+    text(b")");
+}
+
 fn builds(counts: &[usize]) {
     let built = get(counts, counts::BUILT);
     let refused = get(counts, counts::REFUSED);
     put(b"builds: ", plus(built, refused));
     put(b"; built: ", built);
+    kinds(counts, counts::BUILT_KINDS);
     put(b"; refused: ", refused);
     put(b"; agree: ", get(counts, counts::BUILDS_AGREE));
     put(
@@ -52,6 +61,7 @@ fn reads(counts: &[usize]) {
     let filled = get(counts, counts::FILLED);
     let not_filled = get(counts, counts::NOT_FILLED);
     put(b"\nqueries: ", get(counts, counts::QUERIES));
+    kinds(counts, counts::WINDOW_KINDS);
     put(b"; agree: ", get(counts, counts::QUERIES_AGREE));
     put(b"\nreads: ", plus(filled, not_filled));
     put(b"; filled: ", filled);

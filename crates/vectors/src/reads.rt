@@ -153,6 +153,7 @@ fn query(counts: &mut [usize], f: File, lengths: &[u32], w: Window) -> bool {
     counts::add_if(counts, counts::QUERIES_AGREE, agrees);
     counts::add_if(counts, counts::ALONE, w.alone);
     counts::add(counts, count(w.number), 1);
+    counts::add_kind(counts, counts::WINDOW_KINDS, f.dst, f.format.crc);
     agrees
 }
 
