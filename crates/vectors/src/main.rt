@@ -2,10 +2,10 @@
 // holds what is to be printed where all agree. A number is written in groups of 7 bits, the highest first, the last one in a byte below 128. A packed list, of numbers or
 // of bytes, begins with how many pieces it has; a piece is twice a count, and so many numbers; or twice a count and one more, and how far back so many are copied
 // from. First how many records there are. A record begins with its kind:
-// 0, 1  a build, of more words for 1: all its words, packed: 67, then pool, tracks, markers, comments, callers and lengths, each with its count in front; raw, packed;
+// 0     a build: all its words, packed: 67, then pool, tracks, markers, comments, callers and lengths, each with its count in front; raw, packed;
 //       the answer: 1 if it is by document 01 alone, 0 if it is the original's too; the number of the refusal and its detail; or 0, the lengths of header, sound and
 //       trailer, and header and trailer, packed. A header or a trailer of more bytes than there is room for here is recorded as 40 or 41 with its length
-// 2     a file: words, packed: whether it is DST, the CRC switch, channels, positions, seed, and the lengths with their count in front; the lengths of header and
+// 1     a file: words, packed: whether it is DST, the CRC switch, channels, positions, seed, and the lengths with their count in front; the lengths of header and
 //       trailer, and 0, or 1 with header and trailer, packed (without them only queries can be asked); how many windows there are, and the windows. A window is offset
 //       and length; the first position needed and one past the last; how many lengths, bytes of DST frames and bytes of content are lent; 1 or 0 as above; the number
 //       of the refusal, or 0 and the bytes that are filled, packed

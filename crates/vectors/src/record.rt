@@ -10,43 +10,23 @@ use crate::number::take;
 use crate::reads;
 use crate::unpack;
 
-// Room for the words and for the other lists of most records.
-const WORDS: usize = 2_048;
+// Room for what a build has: the words of 65,536 comments, and texts of 65,536 elements.
+const WORDS: usize = 600_000;
 
-const ROOM: usize = 8_192;
+const ROOM: usize = 66_560;
 
-// The same of the longest: 65,536 comments, and texts of 65,536 elements.
-const MOST_WORDS: usize = 600_000;
+// Room for a trailer, and for the two sides of a file that is read.
+const SIDE: usize = 8_192;
 
-const MOST_ROOM: usize = 66_560;
+const FILE_WORDS: usize = 2_048;
 
 fn build(file: &[u8], at: usize, counts: &mut [usize]) -> Outcome {
     let mut rows = [0u32; WORDS];
     let mut raw = [0u8; ROOM];
     let mut header = [FILL; ROOM];
-    let mut trailer = [FILL; ROOM];
+    let mut trailer = [FILL; SIDE];
     let mut wanted_header = [FILL; ROOM];
-    let mut wanted_trailer = [FILL; ROOM];
-    builds::run(
-        file,
-        at,
-        counts,
-        &mut rows,
-        &mut raw,
-        &mut header,
-        &mut trailer,
-        &mut wanted_header,
-        &mut wanted_trailer,
-    )
-}
-
-fn large_build(file: &[u8], at: usize, counts: &mut [usize]) -> Outcome {
-    let mut rows = [0u32; MOST_WORDS];
-    let mut raw = [0u8; MOST_ROOM];
-    let mut header = [FILL; MOST_ROOM];
-    let mut trailer = [FILL; ROOM];
-    let mut wanted_header = [FILL; MOST_ROOM];
-    let mut wanted_trailer = [FILL; ROOM];
+    let mut wanted_trailer = [FILL; SIDE];
     builds::run(
         file,
         at,
@@ -61,9 +41,9 @@ fn large_build(file: &[u8], at: usize, counts: &mut [usize]) -> Outcome {
 }
 
 fn windows(file: &[u8], at: usize, counts: &mut [usize]) -> Outcome {
-    let mut rows = [0u32; WORDS];
-    let mut header = [FILL; ROOM];
-    let mut trailer = [FILL; ROOM];
+    let mut rows = [0u32; FILE_WORDS];
+    let mut header = [FILL; SIDE];
+    let mut trailer = [FILL; SIDE];
     let words = unpack::words(file, at, &mut rows);
     let f = file::read(file, words.at, &rows, &mut header, &mut trailer);
     reads::run(
@@ -82,9 +62,6 @@ fn of_kind(file: &[u8], counts: &mut [usize]) -> Outcome {
         return build(file, kind.at, counts);
     }
     if kind.value == 1 {
-        return large_build(file, kind.at, counts);
-    }
-    if kind.value == 2 {
         return windows(file, kind.at, counts);
     }
     Outcome {

@@ -7,19 +7,13 @@ use super::pack;
 use crate::builds::{File, Outcome};
 use crate::checks::Inputs;
 
-// The kinds of record.
+/// The kind of record.
 const BUILD: u64 = 0;
-const LARGE_BUILD: u64 = 1;
 
-/// What the program that answers again has room for: words, bytes of raw and header, bytes of a trailer.
-struct Room {
-    words: usize,
-    bytes: usize,
-    trailer: usize,
-}
-
-const SMALL: Room = Room { words: 2_048, bytes: 8_192, trailer: 8_192 };
-const LARGE: Room = Room { words: 600_000, bytes: 66_560, trailer: 8_192 };
+// What the program that answers again has room for: words, bytes of raw and of a header, bytes of a trailer.
+const MOST_WORDS: usize = 600_000;
+const MOST_BYTES: usize = 66_560;
+const LONGEST_TRAILER: usize = 8_192;
 
 /// All words of a build, lists with their counts in front.
 fn all_words(inputs: &Inputs) -> Vec<u32> {
@@ -36,14 +30,11 @@ fn all_words(inputs: &Inputs) -> Vec<u32> {
 /// The record, unless the build is too large. `alone` says that the answer is by document 01, not by the original.
 pub fn record(inputs: &Inputs, outcome: &Outcome, alone: bool) -> Option<Vec<u8>> {
     let words = all_words(inputs);
-    let fits = |room: &Room| words.len() <= room.words && inputs.raw.len() <= room.bytes;
-    let (kind, room) = match (fits(&SMALL), fits(&LARGE)) {
-        (true, _) => (BUILD, SMALL),
-        (false, true) => (LARGE_BUILD, LARGE),
-        (false, false) => return None,
-    };
+    if words.len() > MOST_WORDS || inputs.raw.len() > MOST_BYTES {
+        return None;
+    }
     let mut out = Vec::new();
-    pack::number(&mut out, kind);
+    pack::number(&mut out, BUILD);
     pack::words(&mut out, &words);
     pack::bytes(&mut out, &inputs.raw);
     pack::number(&mut out, alone.into());
@@ -53,11 +44,11 @@ pub fn record(inputs: &Inputs, outcome: &Outcome, alone: bool) -> Option<Vec<u8>
             pack::number(&mut out, (*detail).into());
         }
         // What there is no room for is told by its length.
-        Outcome::Built(File { header, .. }) if header.len() > room.bytes => {
+        Outcome::Built(File { header, .. }) if header.len() > MOST_BYTES => {
             pack::number(&mut out, HEADER_SHORT);
             pack::number(&mut out, header.len() as u64);
         }
-        Outcome::Built(File { trailer, .. }) if trailer.len() > room.trailer => {
+        Outcome::Built(File { trailer, .. }) if trailer.len() > LONGEST_TRAILER => {
             pack::number(&mut out, TRAILER_SHORT);
             pack::number(&mut out, trailer.len() as u64);
         }

@@ -8,7 +8,8 @@ use super::pack;
 use crate::reads::file::File;
 use crate::reads::{Read, Spoilt, Window};
 
-const FILE: u64 = 2;
+/// The kind of record.
+const FILE: u64 = 1;
 
 // What the program that answers again has room for.
 const MOST_LENGTHS: usize = 2_000;
