@@ -3,6 +3,7 @@ ghost use mathlib.Core.Path.{_≡_};
 ghost use lib.ListN.{set};
 ghost use Rattle.cursor.specs.Append.{overlay};
 ghost use Rattle.words.specs.Inputs.{inputsOf};
+ghost use Rattle.words.specs.Border.{wordsFault};
 ghost use Rattle.abi.specs.Build.{Exported};
 
 // A value at place i, if there is that place.
@@ -38,16 +39,11 @@ pub extern "C" fn jangqeruz_build(
     trailer: &mut [u8],
     answer: &mut [u64],
 ) -> u64
-    ensures { λ r. ⌜ Exported (inputsOf (now (words .entry)) (now (pool .entry)) (now (raw .entry)) (now (tracks .entry)) (now (markers .entry)) (now (comments .entry)) (now (callers .entry)) (now (lengths .entry)))
+    ensures { λ r. ⌜ Exported (wordsFault (now (words .entry))) (inputsOf (now (words .entry)) (now (pool .entry)) (now (raw .entry)) (now (tracks .entry)) (now (markers .entry)) (now (comments .entry)) (now (callers .entry)) (now (lengths .entry)))
         (now (header .entry)) (now (header .exit)) (now (trailer .entry)) (now (trailer .exit)) (now (answer .entry)) (now (answer .exit)) r ⌝ }
 {
-    let a = assemble::build::build_rows(
-        words::inputs::area_of(words),
-        words::inputs::options_of(words),
-        words::orders::property_order(words),
-        words::orders::info_order(words),
-        words::orders::local_order(words),
-        single_words::word::word(words, 66),
+    let a = word_builds::build::build(
+        words,
         pool,
         raw,
         tracks,

@@ -1,7 +1,9 @@
-// The verdict on the inputs of a build. The single values are words, each at its own place, as Inputs.antt of the crate words lists them. A word past
-// the end is 0; one that stands for a u8 or a u16 counts by its low bits; a switch is on if its word is not 0.
+// The verdict on the inputs of a build. The single values are words, each at its own place, as Inputs.antt of the crate words lists them. What is wrong with the words themselves is
+// refused first (Border.antt there): their number, a word that its field cannot hold, a number that names nothing. A switch is on if its word is not 0.
 ghost use mathlib.Core.Path.{_≡_};
 ghost use Rattle.checks.specs.InputVerdict.{verdict};
+ghost use Rattle.refusal.specs.Verdict.{orElse};
+ghost use Rattle.words.specs.Border.{wordsFault};
 ghost use Rattle.words.specs.Inputs.{inputsOf};
 ghost use Rattle.abi.specs.Verdict.{answer};
 use refusal::verdict::Verdict;
@@ -25,16 +27,11 @@ pub extern "C" fn jangqeruz_verdict(
     callers: &[u32],
     lengths: &[u32],
 ) -> u64
-    ensures { λ r. ⌜ r ≡ answer (verdict (inputsOf (now (words .entry)) (now (pool .entry)) (now (raw .entry))
-        (now (tracks .entry)) (now (markers .entry)) (now (comments .entry)) (now (callers .entry)) (now (lengths .entry)))) ⌝ }
+    ensures { λ r. ⌜ r ≡ answer (orElse (wordsFault (now (words .entry))) (verdict (inputsOf (now (words .entry)) (now (pool .entry)) (now (raw .entry))
+        (now (tracks .entry)) (now (markers .entry)) (now (comments .entry)) (now (callers .entry)) (now (lengths .entry))))) ⌝ }
 {
-    let v = checks::verdict::verdict(
-        words::inputs::area_of(words),
-        words::inputs::options_of(words),
-        words::orders::property_order(words),
-        words::orders::info_order(words),
-        words::orders::local_order(words),
-        single_words::word::word(words, 66),
+    let v = words::verdict::verdict(
+        words,
         pool,
         raw,
         tracks,

@@ -13,7 +13,6 @@ use Rattle.build_options.specs.declared.area.Area.{Area}
 use Rattle.build_options.specs.declared.options.Options.{Options}
 use Rattle.build_options.specs.declared.options.Settings.{Settings}
 use Rattle.area_rules.specs.Area.{longestPlaytime}
-use Rattle.build_options.specs.Options.{isPresent}
 use Rattle.build_options.specs.Area.{unspecified}
 
 abbrev pub trackCount : List ℕ → ℕ
@@ -56,7 +55,7 @@ masterOptionsFault o =
     firstOf
     (refuseIf (o .«custom_markers») 21 0
     ∷ refuseIf (not (o .«loudspeaker_configuration»)) 22 0
-    ∷ refuseIf (not (isPresent (o .«edited_master_id»))) 23 0
+    ∷ refuseIf (not (o .«edited_master_id_written»)) 23 0
     ∷ [])
 
 -- 15 to 23

@@ -66,10 +66,9 @@ fn master_tracks_fault(tracks: &[u32]) -> Verdict
 fn master_options_fault(o: Options) -> Verdict
     ensures { λ r. ⌜ r ≡ masterOptionsFault o ⌝ }
 {
-    let id = o.edited_master_id;
     let v21 = refuse_if(o.custom_markers, 21, 0);
     let v22 = refuse_if(!o.loudspeaker_configuration, 22, 0);
-    let v23 = refuse_if(!build_options::options::is_present(id), 23, 0);
+    let v23 = refuse_if(!o.edited_master_id_written, 23, 0);
     v21.or_else(v22.or_else(v23))
 }
 

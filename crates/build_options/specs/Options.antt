@@ -41,7 +41,8 @@ defaults = record {
   «source_track» = 0;
   «edited_master» = false;
   «edited_master_info» = false;
-  «edited_master_id» = text.Given (record { start = 0; length = 0 });
+  «edited_master_id_written» = true;
+  «edited_master_id» = record { start = 0; length = 0 };
   «custom_markers» = false;
   «source_track_markers» = false;
   «clipped_program» = false;
@@ -107,12 +108,16 @@ programOptions area o s = record {
   titles = o .«marker_titles»;
 }
 
+-- EMID's bytes, if it is written
+abbrev pub idText : Bool → Extent → Text
+idText written id = cond written (text.Given id) text.Absent
+
 -- what DIIN tells
 abbrev pub infoOf : Area → Options → Settings → Info
 infoOf area o s = record {
   on = s .info;
   «empty_info» = o .«empty_info»;
-  emid = o .«edited_master_id»;
+  emid = idText (o .«edited_master_id_written») (o .«edited_master_id»);
   «custom_markers» = o .«custom_markers»;
   program = programOptions area o s;
   start = s .start;
@@ -123,18 +128,14 @@ infoOf area o s = record {
   track = o .track;
 }
 
-abbrev pub isPresent : Text → Bool
-isPresent text.Absent = false
-isPresent (text.Given e) = true
-
 -- the extent of a text; of one that is missing, an empty one
 abbrev pub extentOf : Text → Extent
 extentOf text.Absent = record { start = 0; length = 0 }
 extentOf (text.Given e) = e
 
 -- extents as rows of two words
-abbrev pub idRow : Text → List ℕ
-idRow t = extentOf t .start ∷ extentOf t .length ∷ []
+abbrev pub idRow : Extent → List ℕ
+idRow e = e .start ∷ e .length ∷ []
 
 abbrev pub tagRows : ArtistTitle → ArtistTitle → List ℕ
 tagRows album track =

@@ -1,6 +1,6 @@
 // The options of a build, their defaults, and what an edited master changes of them.
 ghost use mathlib.Core.Path.{_≡_};
-ghost use Rattle.build_options.specs.Options.{isPresent, extentOf, defaults, effective, startOf, isOn, ruleOf, textOptions, infoOf, programOptions, tagRows, idRow};
+ghost use Rattle.build_options.specs.Options.{idText, extentOf, defaults, effective, startOf, isOn, ruleOf, textOptions, infoOf, programOptions, tagRows, idRow};
 use crate::area::Area;
 use diin_texts::diin_text::Text;
 use dst_index::index::DstIndexOffset;
@@ -39,7 +39,8 @@ pub struct Options {
     pub source_track: u8, // from 1 on, 0 for none
     pub edited_master: bool,
     pub edited_master_info: bool, // whether there is a DIIN
-    pub edited_master_id: Text, // the bytes of EMID; absent: no EMID
+    pub edited_master_id_written: bool, // whether DIIN has EMID
+    pub edited_master_id: Extent, // its bytes; looked at though it is not written
     pub custom_markers: bool, // whether the markers are those given, not made from tracks
     pub source_track_markers: bool, // whether a source track gives markers
     pub clipped_program: bool, // whether a range that is not the play range does
@@ -82,10 +83,11 @@ pub fn defaults() -> Options
         source_track: 0,
         edited_master: false,
         edited_master_info: false,
-        edited_master_id: Text::Given(Extent {
+        edited_master_id_written: true,
+        edited_master_id: Extent {
             start: 0,
             length: 0,
-        }),
+        },
         custom_markers: false,
         source_track_markers: false,
         clipped_program: false,
@@ -203,7 +205,8 @@ fn program_options(area: Area, o: Options, s: Settings) -> ProgramOptions
 pub fn info_of(area: Area, o: Options, s: Settings) -> Info
     ensures { λ r. ⌜ r ≡ infoOf area o s ⌝ }
 {
-    let emid = o.edited_master_id;
+    let id = o.edited_master_id;
+    let emid = id_text(o.edited_master_id_written, id);
     let start = s.start;
     let source = o.artist_title_source;
     let album = o.album;
@@ -225,17 +228,14 @@ pub fn info_of(area: Area, o: Options, s: Settings) -> Info
     }
 }
 
-pub fn is_present(text: Text) -> bool
-    ensures { λ r. ⌜ r ≡ isPresent text ⌝ }
+// EMID's bytes, if it is written.
+fn id_text(written: bool, id: Extent) -> Text
+    ensures { λ r. ⌜ r ≡ idText written id ⌝ }
 {
-    match text {
-        Text::Absent => {
-            return false;
-        }
-        Text::Given(_) => {
-            return true;
-        }
+    if written {
+        return Text::Given(id);
     }
+    Text::Absent
 }
 
 // The extent of a text; of one that is missing, an empty one.
@@ -280,9 +280,8 @@ pub fn tag_rows(album: ArtistTitle, track: ArtistTitle) -> [u32; 8]
 }
 
 // The extent of EMID's bytes, as a row.
-pub fn id_row(id: Text) -> [u32; 2]
+pub fn id_row(id: Extent) -> [u32; 2]
     ensures { λ r. ⌜ r ≡ idRow id ⌝ }
 {
-    let e = extent_of(id);
-    [e.start, e.length]
+    [id.start, id.length]
 }

@@ -90,13 +90,8 @@ pub fn list<'a>(rows: &'a [u32], spans: [usize; 14], k: usize) -> &'a [u32] {
 }
 
 pub fn verdict(words: &[u32], raw: &[u8], rows: &[u32], spans: [usize; 14]) -> Verdict {
-    checks::verdict::verdict(
-        words::inputs::area_of(words),
-        words::inputs::options_of(words),
-        words::orders::property_order(words),
-        words::orders::info_order(words),
-        words::orders::local_order(words),
-        single_words::word::word(words, 66),
+    words::verdict::verdict(
+        words,
         list(rows, spans, 0),
         raw,
         list(rows, spans, 2),

@@ -23,7 +23,8 @@ use Rattle.master_info.proofs.DiinSizeLaws.{ShortGiven, Limited, diin-room}
 use Rattle.refusal.specs.declared.verdict.Verdict.the-variants.{Accepted}
 use Rattle.rows.specs.declared.row.Row.the-variants as row
 use Rattle.row_extents.proofs.RowFaultLaws.{RowsFit}
-use Rattle.build_options.specs.Options.{extentOf, effective, infoOf}
+use Rattle.texts.specs.declared.extent.Extent.{Extent}
+use Rattle.build_options.specs.Options.{idText, extentOf, effective, infoOf}
 use Rattle.rules.specs.Limits.{longestText}
 use Rattle.build_options.specs.Inputs.{Inputs}
 use Rattle.checks.specs.InputVerdict.{verdict}
@@ -32,6 +33,10 @@ use Rattle.checks.proofs.AcceptedLaws.{tags-fit, emid-fits, tracks-fit,
 given-short : (t : Text) → extentOf t .length ≤ longestText → ShortGiven longestText t
 given-short Absent h = tt
 given-short (Given e) h = h
+
+id-short : (written : Bool) (e : Extent) → e .length ≤ longestText → ShortGiven longestText (idText written e)
+id-short true e h = h
+id-short false e h = tt
 
 -- the titles of rows of tracks, and the texts of rows of markers
 titles-short : (tracks : List ℕ) {most pool : ℕ} → RowsFit row.Track tracks most longestText pool → ShortTitles longestText (spans tracks)
@@ -69,7 +74,7 @@ module _ (x : Inputs) (ok : verdict x ≡ Accepted) where
   -- what DIIN is made of keeps to the limits
   pub limited : Limited longestText 65_535 (x .tracks) (x .markers) info
   limited = record {
-    id = given-short (info .emid) (emid-fits x ok .short 0 (omega arith));
+    id = id-short (x .options .«edited_master_id_written») (x .options .«edited_master_id») (emid-fits x ok .short 0 (omega arith));
     artists = (given-short (info .track .artist) (tags-fit x ok .short 2 (omega arith)), given-short (info .album .artist) (tags-fit x ok .short 0 (omega arith)));
     titles = (given-short (info .track .title) (tags-fit x ok .short 3 (omega arith)), given-short (info .album .title) (tags-fit x ok .short 1 (omega arith)));
     texts = texts;

@@ -84,13 +84,8 @@ fn build(
     trailer: &mut [u8],
 ) -> Answer {
     let none = NO_ROWS;
-    assemble::build::build_rows(
-        words::inputs::area_of(words),
-        words::inputs::options_of(words),
-        words::orders::property_order(words),
-        words::orders::info_order(words),
-        words::orders::local_order(words),
-        single_words::word::word(words, 66),
+    word_builds::build::build(
+        words,
         &none,
         b"",
         tracks,

@@ -21,7 +21,6 @@ use Rattle.dst_reads.proofs.RealLaws.{same-sound}
 use Rattle.dsd_reads.proofs.RealLaws.{same-sound-dsd}
 use Rattle.build_options.specs.Inputs.{Inputs}
 use Rattle.file_tree.specs.Sound.{soundBytes}
-use Rattle.dsdiff.proofs.WholeLaws.{whole}
 use Rattle.file_read.specs.Lent.{soundWith}
 use Rattle.file_read.specs.Read.{Request, neededFor, fileWith}
 use Rattle.file_read.proofs.PieceLaws.{begin, behind}
@@ -110,6 +109,6 @@ module _ (b : AcceptedBuild) (fs : List Frame) (recorded : Recorded (b .inputs) 
   same-file =
       let s = soundBytes (x .area .sound) (q .format .crc) fs in
       let file : q .header ++ s ++ q .trailer ≡ fileBytes b fs =
-      rw (given .header, given .trailer, given .crc) (whole x (b .headerBefore) (b .trailerBefore) (b .promise) refl fs (recorded .fits)) in
+      rw (given .header, given .trailer, given .crc) in
       rw (← file)
       (same-files q out _ s (sound-same q out (x .area .sound) fs (read-of b fs recorded q (length out) given)))

@@ -1,4 +1,5 @@
-// A word of a list. One past the end is 0; one that stands for a u8 or a u16 counts by its low bits; a switch is on if its word is not 0.
+// A word of a list. One past the end is 0; one that stands for a u8 or a u16 counts by its low bits (the crate words refuses lists where either matters); a switch is
+// on if its word is not 0.
 ghost use mathlib.Core.Path.{_≡_};
 ghost use Rattle.single_words.specs.Word.{wordOf, byteOf, halfOf, isSet, textAt};
 use diin_texts::diin_text::Text;

@@ -59,6 +59,7 @@ with d1 start offset crc = record {
   «source_track» = defaults .«source_track»;
   «edited_master» = defaults .«edited_master»;
   «edited_master_info» = defaults .«edited_master_info»;
+  «edited_master_id_written» = defaults .«edited_master_id_written»;
   «edited_master_id» = defaults .«edited_master_id»;
   «custom_markers» = defaults .«custom_markers»;
   «source_track_markers» = defaults .«source_track_markers»;

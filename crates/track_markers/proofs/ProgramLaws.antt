@@ -5,12 +5,12 @@ use mathlib.Core.List.{List, [], _∷_, _++_, append-assoc, append-nil}
 use Prim.Native.Nat.{ℕ}
 use lib.Dec.{eqb}
 use borrow.Author.Tests.{eq-eqb, ne-eqb, eqb-true, eqb-false}
-use Rattle.tracks.specs.Track.{hasFrames, kept, some}
+use Rattle.tracks.specs.Track.{hasFrames, kept, endAfter, some}
 use Rattle.track_markers.specs.Program.{trackStart, trackStop, stopUnless, trackMarkers}
 use Rattle.track_markers.specs.Pass.{stopIf, addedMarkers}
 use Rattle.markers.specs.declared.marker.Marker.{Marker}
 use Rattle.tracks.specs.declared.track.Span.{Span}
-use Rattle.tracks.proofs.OrderLaws.{endAfter, endAfter-snoc, some-append}
+use Rattle.tracks.proofs.OrderLaws.{endAfter-snoc, some-append}
 
 pub eqb-comm : (a b : ℕ) → eqb a b ≡ eqb b a
 eqb-comm a b = go (eqb b a) refl

@@ -7,16 +7,11 @@ use native.Mathlib.Omega.{arith}
 use lib.ListN.{length, take, getD}
 use lib.Dec.{leb}
 use Rattle.chunk.specs.Rows.{rows}
-use Rattle.tracks.specs.Track.{spanOf, spanAt, spans, clip, hasFrames, kept, clipped, inOrder, allHaveFrames, exact, some}
+use Rattle.tracks.specs.Track.{spanOf, spanAt, spans, clip, hasFrames, kept, clipped, inOrder, endAfter, allHaveFrames, exact, some}
 use Rattle.tracks.specs.Order.{orderWith}
 use Rattle.tracks.specs.declared.track.Span.{Span}
 use Rattle.tracks.specs.declared.order.Order.{Order}
 use Rattle.tracks.proofs.TrackLaws.{spans-next, spans-all, clipped-next}
-
--- where the last of spans that follow a frame ends; the frame, if there are none
-unfoldable pub endAfter : ℕ → List Span → ℕ
-endAfter after [] = after
-endAfter after (s ∷ ss) = endAfter (s .end) ss
 
 pub endAfter-snoc : (after : ℕ) (xs : List Span) (s : Span) → endAfter after (xs ++ (s ∷ [])) ≡ s .end
 unfolding endAfter

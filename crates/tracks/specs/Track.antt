@@ -49,6 +49,11 @@ unfoldable pub inOrder : ℕ → List Span → Bool
 inOrder after [] = true
 inOrder after (s ∷ ss) = leb after (s .start) && inOrder (s .end) ss
 
+-- where the last of spans that follow a frame ends; the frame, if there are none
+unfoldable pub endAfter : ℕ → List Span → ℕ
+endAfter after [] = after
+endAfter after (s ∷ ss) = endAfter (s .end) ss
+
 -- whether none is empty
 unfoldable pub allHaveFrames : List Span → Bool
 allHaveFrames [] = true

@@ -1,7 +1,7 @@
 // Whether tracks are in order, and give a program.
 ghost use mathlib.Core.Path.{_≡_};
 ghost use mathlib.Core.List.{map};
-ghost use Rattle.tracks.specs.Track.{spans, clip, clipped, inOrder, allHaveFrames, exact, some};
+ghost use Rattle.tracks.specs.Track.{spans, clip, clipped, inOrder, endAfter, allHaveFrames, exact, some};
 ghost use Rattle.tracks.specs.Order.{orderWith, isPlayRange, hasProgram};
 use crate::track::Span;
 
@@ -21,7 +21,7 @@ pub struct Order {
     pub left: bool, // one is not empty
     pub whole: bool, // none is empty
     pub ordered: bool, // those that are not empty are in order and don't overlap
-    pub end: u32, // of the last that is not empty
+    pub end: u32, // of the last that is not empty, 0 if there is none
 }
 
 impl Order {
@@ -51,6 +51,7 @@ pub fn clipped_order(tracks: &[u32], first: u32, end: u32) -> Order
     ensures { λ r. ⌜ r .left ≡ some (clipped first end (spans (now (tracks .entry)))) ⌝ }
     ensures { λ r. ⌜ r .whole ≡ allHaveFrames (map (clip first end) (spans (now (tracks .entry)))) ⌝ }
     ensures { λ r. ⌜ r .ordered ≡ inOrder 0 (clipped first end (spans (now (tracks .entry)))) ⌝ }
+    ensures { λ r. ⌜ r .end ≡ endAfter 0 (clipped first end (spans (now (tracks .entry)))) ⌝ }
 {
     let mut o = Order {
         left: false,

@@ -37,13 +37,8 @@ pub fn build(
     header: &mut [u8],
     trailer: &mut [u8],
 ) -> Answer {
-    assemble::build::build_rows(
-        words::inputs::area_of(rows),
-        words::inputs::options_of(rows),
-        words::orders::property_order(rows),
-        words::orders::info_order(rows),
-        words::orders::local_order(rows),
-        single_words::word::word(rows, 66),
+    word_builds::build::build(
+        lists::part(rows, 0, WORDS),
         list(rows, WORDS),
         raw,
         list(rows, lists.tracks),

@@ -44,7 +44,8 @@ choicesOf w = record {
   «source_track» = byteOf w 21;
   «edited_master» = isSet w 22;
   «edited_master_info» = isSet w 23;
-  «edited_master_id» = textAt w 24;
+  «edited_master_id_written» = isSet w 24;
+  «edited_master_id» = record { start = wordOf w 25; length = wordOf w 26 };
   «custom_markers» = isSet w 27;
   «source_track_markers» = isSet w 28;
   «clipped_program» = isSet w 29;

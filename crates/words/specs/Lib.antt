@@ -1,1 +1,3 @@
 pub mod Inputs
+pub mod Border
+pub mod Exact

@@ -10,6 +10,7 @@ use single_words::word::half;
 use single_words::word::is_set;
 use single_words::word::text_at;
 use single_words::word::word;
+use texts::extent::Extent;
 
 pub fn area_of(words: &[u32]) -> Area
     ensures { λ r. ⌜ r ≡ areaOf (now (words .entry)) ⌝ }
@@ -55,7 +56,11 @@ pub fn options_of(words: &[u32]) -> Options
         source_track: byte(words, 21),
         edited_master: is_set(words, 22),
         edited_master_info: is_set(words, 23),
-        edited_master_id: text_at(words, 24),
+        edited_master_id_written: is_set(words, 24),
+        edited_master_id: Extent {
+            start: word(words, 25),
+            length: word(words, 26),
+        },
         custom_markers: is_set(words, 27),
         source_track_markers: is_set(words, 28),
         clipped_program: is_set(words, 29),

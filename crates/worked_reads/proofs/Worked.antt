@@ -1,7 +1,7 @@
 -- The worked instance holds, by computation. Assumes nothing.
-use mathlib.Core.Path.{_≡_, refl}
+use mathlib.Core.Path.{_≡_, refl, ap, subst}
 use mathlib.Core.Bool.{Bool, true, false}
-use mathlib.Core.List.{List, [], _∷_, flatMap}
+use mathlib.Core.List.{List, [], _∷_, flatMap, _++_}
 use mathlib.Core.Option.{Option, none, some, IsSome}
 use Prim.Native.Nat.{ℕ, _-_, _^_}
 use native.Mathlib.Omega.{arith}
@@ -63,7 +63,7 @@ use Rattle.read_rules.specs.Needed.{needed}
 use Rattle.read_answer.specs.declared.answer.ReadAnswer.the-variants.{Filled, Refused}
 use Rattle.file_read.specs.Read.{Reads}
 use Rattle.old_readers.specs.Premises.{AcceptedBuild, Call, Recorded, Lent, Given, AllGiven, readBy}
-use Rattle.old_readers.specs.OldReaders.{gathered, OldReaders}
+use Rattle.old_readers.specs.OldReaders.{fileBytes, gathered, OldReaders}
 use Rattle.old_readers.proofs.OldReadersProof.{every-list-of-reads}
 use Rattle.worked_reads.specs.WorkedReads as worked
 
@@ -88,6 +88,7 @@ record Computed : Type 0 where
   pub built : Builds dst-crc (worked.empty 160) worked.headerBuffer (worked.empty 36) (trailerOf dst-crc) (Built 158 64 36)
   pub header : headerOf dst-crc ≡ take 158 worked.headerBuffer
   pub trailer : trailerOf dst-crc ≡ take 36 (trailerOf dst-crc)
+  pub whole : take 158 worked.headerBuffer ++ soundBytes (dst-crc .area .sound) (dst-crc .options .«dst_crc») worked.frames ++ take 36 (trailerOf dst-crc) ≡ worked.file
   -- the reads
   pub front-read : Reads worked.front (worked.empty 160) (worked.holding 0 160) (Filled 160)
   pub unlent-read : Reads worked.unlent (worked.empty 10) (worked.empty 10) (Refused 43 0)
@@ -114,6 +115,7 @@ computed = record {
   built = record { orders = record { property = refl; info = refl; local = refl }; answers = refl; header = refl; trailer = refl };
   header = refl;
   trailer = refl;
+  whole = refl;
   front-read = record { answer = refl; buffer = refl };
   unlent-read = record { answer = refl; buffer = refl };
   middle-read = record { answer = refl; buffer = refl };
@@ -197,11 +199,18 @@ unfolding missing
 there none e = let z : _≡_ {A = ℕ} 0 1 = cc in absurd (omega arith)
 there (some a) e = tt
 
+is-file : fileBytes build worked.frames ≡ worked.file
+unfolding build
+is-file = computed .whole
+
 gathers : Holds (gathered calls) worked.file
 unfolding build calls
 gathers =
-    old-readers .whole
-    (λ p h. there (gather nothing reads p) (none-so (λ p. missing (gather nothing reads p)) 258 (computed .none-missing) p (omega (arith, computed .long, h))))
+    subst (λ (f : List ℕ). Holds (gathered calls) f) is-file
+    (old-readers .whole
+    (λ p h.
+    let long = ap length is-file in
+    there (gather nothing reads p) (none-so (λ p. missing (gather nothing reads p)) 258 (computed .none-missing) p (omega (arith, computed .long, long, h)))))
 
 pub worked-reads : worked.WorkedReads build calls
 unfolding build calls

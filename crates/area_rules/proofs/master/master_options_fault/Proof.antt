@@ -10,10 +10,9 @@ returns c =
       c .or-else2 .ensures,
       c .before .or-else .ensures,
       c .before .before .refuse-if3 .ensures,
-      c .before .before .before .is-present .ensures,
       c .before .before .before .before .refuse-if2 .ensures,
       c .before .before .before .before .before .before .refuse-if .ensures,
     )
 
 pub master-options-fault-spec : {M : Type 1} → statement M
-master-options-fault-spec = tie.close (tie.spec (λ c κs. tt) (λ c κs. tt) (λ c κs. tt) (λ c κs. tt) (λ c κs. tt) (λ c κs. tt) returns)
+master-options-fault-spec = tie.close (tie.spec (λ c κs. tt) (λ c κs. tt) (λ c κs. tt) (λ c κs. tt) (λ c κs. tt) returns)

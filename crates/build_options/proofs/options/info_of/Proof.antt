@@ -7,7 +7,8 @@ returns c =
     rw (
       c .text-options .ensures,
       c .before .program-options .ensures,
+      c .before .before .before .before .id-text .ensures,
     )
 
 pub info-of-spec : {M : Type 1} → statement M
-info-of-spec = tie.close (tie.spec (λ c κs. tt) (λ c κs. tt) returns)
+info-of-spec = tie.close (tie.spec (λ c κs. tt) (λ c κs. tt) (λ c κs. tt) returns)

@@ -13,8 +13,7 @@ use Rattle.cursor.proofs.AppendLaws.{_then_, none}
 use Rattle.tree.proofs.TreeLaws.{bytes-each-cons, bytes-each-append}
 use Rattle.markers.specs.Marker.{mark}
 use Rattle.track_markers.specs.Program.{program}
-use Rattle.tracks.specs.Track.{spans, clipped, some}
-use Rattle.tracks.proofs.OrderLaws.{endAfter}
+use Rattle.tracks.specs.Track.{spans, clipped, endAfter, some}
 use Rattle.track_markers.proofs.ProgramLaws.{opened, opened-next, some-next, end-next, track-markers}
 use Rattle.tracks.proofs.TrackLaws.{spans-all, clipped-next, span-there}
 use Rattle.track_markers.proofs.program.program.Statement.{statement}

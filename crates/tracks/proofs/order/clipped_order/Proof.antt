@@ -28,7 +28,7 @@ returns : tie.Need-returns Inv-loop μ-loop
 returns c =
     let args = c .before .before .before .args in
     let all = passed-all (args .first) (args .end) (now (args .tracks)) (c .before .loop .i) (search needs) (c .before .loop .inv .1) in
-    (all .left, (all .whole, all .ordered))
+    (all .left, (all .whole, (all .ordered, all .end)))
 
 pub clipped-order-spec : {M : Type 1} → statement M
 clipped-order-spec =

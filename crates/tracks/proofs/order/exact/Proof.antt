@@ -7,7 +7,7 @@ use Rattle.tracks.proofs.order.exact.Tie as tie
 returns : tie.Need-returns
 returns c =
     let c₀ = c .before in
-    rw (c₀ .clipped-order .ensures .1 .0, c₀ .clipped-order .ensures .1 .1) (exact-known (now (c₀ .before .before .args .tracks)))
+    rw (c₀ .clipped-order .ensures .1 .0, c₀ .clipped-order .ensures .1 .1 .0) (exact-known (now (c₀ .before .before .args .tracks)))
 
 pub exact-spec : {M : Type 1} → statement M
 exact-spec =

@@ -12,7 +12,7 @@ returns c =
     let o = test .before .before .clipped-order in
     let p = test .before .before .before .before .args .p in
     let whole : isPlayRange p ≡ true = rw (← test .before .is-play-range .ensures) (test .if1 .taken) in
-    and-assoc (o .result .left) (o .result .ordered) (c .exact .result) ∙ rw (o .ensures .0, o .ensures .1 .1, c .exact .ensures, whole)
+    and-assoc (o .result .left) (o .result .ordered) (c .exact .result) ∙ rw (o .ensures .0, o .ensures .1 .1 .0, c .exact .ensures, whole)
 
 returns-2 : tie.Need-returns-2
 unfolding hasProgram
@@ -21,7 +21,7 @@ returns-2 c =
     let o = test .before .before .clipped-order in
     let p = test .before .before .before .before .args .p in
     let part : isPlayRange p ≡ false = rw (← test .before .is-play-range .ensures) (test .if1 .left) in
-    and-assoc (o .result .left) (o .result .ordered) (p .«clipped_program») ∙ rw (o .ensures .0, o .ensures .1 .1, part)
+    and-assoc (o .result .left) (o .result .ordered) (p .«clipped_program») ∙ rw (o .ensures .0, o .ensures .1 .1 .0, part)
 
 pub has-program-spec : {M : Type 1} → statement M
 has-program-spec =

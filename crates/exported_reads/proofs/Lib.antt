@@ -1,0 +1,3 @@
+pub mod NumberLaws
+pub mod CallersProof
+pub mod RefusalsProof

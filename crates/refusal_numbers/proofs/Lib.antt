@@ -1,0 +1,2 @@
+pub mod WithinLaws
+pub mod NumbersProof

@@ -1,0 +1,1 @@
+// No function: which numbers a refusal has.
