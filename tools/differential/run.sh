@@ -12,6 +12,7 @@ usage: run.sh [OPTION VALUE]..
   --failing FILE   where its smallest failing case is saved (target/differential/smallest-NAME.txt)
   --replay FILE    compare only the case that was saved in FILE, again
   --record FILE    compare nothing, write a sample of the original's answers
+  --cases FILE     with the drawn builds of this list in it (without: they are chosen, and target/differential/chosen.txt lists them)
   --request DIR    the folder of the request (../shared beside the repository's root)
   --library FILE   this archive instead of that of `rt staticlib abi`
 END
@@ -27,6 +28,7 @@ subject=
 failing=
 replay=
 record=
+cases=
 request=$root/../shared
 library=
 
@@ -39,21 +41,23 @@ while [ $# -gt 0 ]; do
         --failing) failing=$2 ;;
         --replay) replay=$2 ;;
         --record) record=$2 ;;
+        --cases) cases=$2 ;;
         --request) request=$2 ;;
         --library) library=$2 ;;
         *) usage ;;
     esac
     shift 2
 done
-# That file is of one subject.
+# That file is of one subject, the list is of records.
 [ -z "$failing" ] || [ -n "$subject" ] || usage
+[ -z "$cases" ] || [ -n "$record" ] || usage
 
 prepare
 build differential
 
 status=0
 "$root/target/differential/release/differential" --seed "$seed" ${count:+--count "$count"} ${subject:+--subject "$subject"} \
-    ${failing:+--failing "$failing"} --folder "$root/target/differential" ${replay:+--replay "$replay"} ${record:+--record "$record"} \
+    ${failing:+--failing "$failing"} --folder "$root/target/differential" ${replay:+--replay "$replay"} ${record:+--record "$record"} ${cases:+--cases "$cases"} \
     "$root/target/oracle/target/release/scarletbook" || status=$?
 [ "$status" -le 2 ] || failed "the comparison ended with status $status"
 exit "$status"

@@ -28,7 +28,7 @@ use self::saved::Saved;
 use self::subject::{Failing, Task};
 
 const USAGE: &str = "usage: differential [--seed N] [--count N] [--subject NAME [--failing FILE]] [--folder DIR] \
-                     [--record FILE] [--replay FILE] PROGRAM";
+                     [--record FILE [--cases FILE]] [--replay FILE] PROGRAM";
 
 struct Arguments {
     seed: u64,
@@ -38,6 +38,8 @@ struct Arguments {
     subject: Option<String>,
     /// Nothing is compared then.
     record: Option<PathBuf>,
+    /// The list of the drawn builds that are recorded.
+    cases: Option<PathBuf>,
     /// A saved case, which alone is compared.
     replay: Option<PathBuf>,
     /// Where the subject's smallest failing case is saved, if not in a file of that folder.
@@ -65,7 +67,7 @@ const SUBJECTS: [(&str, Run, u64); 6] = [
 
 fn arguments() -> Option<Arguments> {
     let (mut seed, mut count, mut program) = (20_240_611, None, None);
-    let (mut subject, mut record) = (None, None);
+    let (mut subject, mut record, mut cases) = (None, None, None);
     let (mut replay, mut failing, mut folder) = (None, None, PathBuf::new());
     let mut words = env::args().skip(1);
     while let Some(word) = words.next() {
@@ -78,6 +80,7 @@ fn arguments() -> Option<Arguments> {
                 subject = Some(name);
             }
             "--record" => record = Some(words.next()?.into()),
+            "--cases" => cases = Some(words.next()?.into()),
             "--replay" => replay = Some(words.next()?.into()),
             "--failing" => failing = Some(words.next()?.into()),
             "--folder" => folder = words.next()?.into(),
@@ -85,12 +88,12 @@ fn arguments() -> Option<Arguments> {
             _ => return None,
         }
     }
-    // The file is of one subject.
-    if failing.is_some() && subject.is_none() {
+    // The file is of one subject, the list is of records.
+    if failing.is_some() && subject.is_none() || cases.is_some() && record.is_none() {
         return None;
     }
     let program = program?;
-    Some(Arguments { seed, count, subject, record, replay, failing, folder, program })
+    Some(Arguments { seed, count, subject, record, cases, replay, failing, folder, program })
 }
 
 fn main() -> ExitCode {
@@ -109,7 +112,7 @@ fn main() -> ExitCode {
 
 /// True if all agreed, or if nothing was to be compared.
 fn run(arguments: &Arguments) -> Result<bool, String> {
-    let Arguments { seed, count, subject, record, replay, failing, folder, program } = arguments;
+    let Arguments { seed, count, subject, record, cases, replay, failing, folder, program } = arguments;
     if let Some(file) = replay {
         let saved = Saved::read(file)?;
         let found = SUBJECTS.iter().find(|(name, ..)| *name == saved.subject);
@@ -117,7 +120,9 @@ fn run(arguments: &Arguments) -> Result<bool, String> {
         return run(program, &Task::Again(&saved));
     }
     if let Some(file) = record {
-        record::record(program, *seed, count.unwrap_or(COUNT), file)?;
+        let (count, cases) = (count.unwrap_or(COUNT), cases.as_deref());
+        let chosen = folder.join("chosen.txt");
+        record::record(program, &record::Task { seed: *seed, count, cases, file, chosen: &chosen })?;
         return Ok(true);
     }
     let mut agreed = true;

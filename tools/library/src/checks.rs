@@ -8,19 +8,20 @@ pub use crate::text::Row as Comment;
 /// A caller chunk: its name as one number, the first byte highest; start and length of its data in the byte pool.
 pub type Caller = [u32; 3];
 
-// The chunks of a file in an order of them; all above are COMT too.
+// The chunks of a file in an order of them.
 pub const PROP: u8 = 0;
 pub const SOUND: u8 = 1;
 pub const DSTI: u8 = 2;
 pub const DIIN: u8 = 3;
 pub const COMT: u8 = 4;
 
-// A switch that may be left alone; all above are off too.
+// A switch that may be left alone.
 pub const UNSET: u8 = 0;
 pub const ON: u8 = 1;
 pub const OFF: u8 = 2;
 
-/// The single values of a build. Rule, replacement and artist's and title's switch of `info` are not read.
+/// The single values of a build. Rule, replacement and artist's and title's switch of `info` are not read. A number that
+/// names nothing is refused, in `properties` and `info` too, where functions of one chunk take it for the last name.
 #[derive(Clone, Copy, Debug, Default)]
 pub struct Build {
     pub properties: Properties,
@@ -38,18 +39,12 @@ pub struct Build {
     pub local_count: u32,
 }
 
-/// How many words a build has. Words past their end count as 0.
+/// How many words a build has. Fewer or more are refused.
 pub const WORDS: usize = 67;
 
 /// Words of switches: on if not 0.
 pub const SWITCHES: [usize; 25] =
     [0, 6, 14, 15, 16, 18, 19, 20, 22, 23, 24, 27, 28, 29, 30, 31, 34, 37, 40, 43, 46, 48, 49, 50, 51];
-/// Words of which only the low 8 bits count.
-pub const LOW_BYTES: [usize; 19] = [2, 3, 21, 33, 47, 52, 53, 54, 55, 56, 57, 58, 59, 60, 61, 62, 63, 64, 65];
-/// Words of which only the low 16 bits count.
-pub const LOW_HALVES: [usize; 6] = [8, 9, 10, 11, 12, 13];
-/// The word of artist's and title's switch.
-pub const ARTIST_TITLE: usize = 32;
 
 impl Build {
     /// The words in the order of the border.
@@ -78,7 +73,7 @@ impl Build {
     }
 }
 
-/// What a build is lent, rows one after the other.
+/// What a build is lent, rows one after the other. A custom marker's kind is one of the four, or refused.
 #[derive(Clone, Copy)]
 pub struct Lent<'a> {
     pub pool: &'a [u32],

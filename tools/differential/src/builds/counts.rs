@@ -23,7 +23,7 @@ pub struct Counts {
     orders: [BTreeSet<Vec<u8>>; 2],
     drawn_orders: [BTreeSet<Vec<u8>>; 2],
     calls: Calls,
-    checks: checks::counts::Counts,
+    pub checks: checks::counts::Counts,
     pub reads: reads::counts::Counts,
 }
 

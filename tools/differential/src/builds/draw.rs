@@ -10,9 +10,10 @@ use crate::markers::draw::{last_number, percent};
 use crate::random::Random;
 use crate::text::draw_values;
 
-pub fn draw(random: &mut Random) -> Case {
+/// `outside` as for the checks.
+pub fn draw(random: &mut Random, outside: bool) -> Case {
     let mut build = match percent(random, 35) {
-        true => checks::draw(random),
+        true => checks::draw(random, outside),
         false => accepted(random),
     };
     // The original says 13 to it, and there is no file to compare with.
@@ -44,6 +45,7 @@ pub fn accepted(random: &mut Random) -> Build {
         empty_info(random, &mut build);
     }
     draw_order(random, &mut build);
+    checks::settle_id(&mut build, false);
     build
 }
 

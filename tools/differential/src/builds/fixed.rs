@@ -257,7 +257,7 @@ fn texts(cases: &mut Vec<Case>, context: Context) {
             full_info(build);
             build.of.info.switches.text_pad_counted = counted;
             let text = bytes(build, b"EVEN");
-            let kinds = [TRACK_START, TRACK_STOP, PROGRAM_START, INDEX, 3];
+            let kinds = [TRACK_START, TRACK_STOP, PROGRAM_START, INDEX, INDEX];
             build.of.custom.extend(kinds.map(|kind| MarkerOf { kind, flags: 0x8001, ..marker(1, text) }));
         });
         cases.push(named(if counted { "pads counted" } else { "pads not counted" }, 0, full.clone()));
@@ -375,7 +375,11 @@ pub fn of_checks() -> Vec<Case> {
 
 pub fn fixed() -> Vec<Case> {
     let cases = own().into_iter().chain(limits()).chain(of_checks());
-    (0..).zip(cases).map(|(number, case)| case.with_windows(&mut Random::of_case(WINDOWS, number))).collect()
+    let cases = (0..).zip(cases).map(|(number, mut case)| {
+        case.build.beside = number + 1;
+        case.with_windows(&mut Random::of_case(WINDOWS, number))
+    });
+    cases.collect()
 }
 
 /// The seed of the windows.

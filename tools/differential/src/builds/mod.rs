@@ -12,7 +12,7 @@ use library::checks::Verdict;
 
 use self::counts::Counts;
 use self::figures::Figures;
-use crate::checks::{self, Checks, Wanted};
+use crate::checks::{self, border, Checks, Inputs, Wanted};
 use crate::original::Answer;
 use crate::random::Random;
 use crate::reads::asked::{self, simplify_lists, simplify_windows, Asked, Asks};
@@ -63,6 +63,24 @@ impl Case {
             _ => self.asked,
         };
         Case { ours, asked, ..self }
+    }
+
+    /// Makes the calls beside the case's own.
+    fn hold_besides(&self, inputs: &Inputs, outcome: &Outcome, held: &mut rooms::Held, counts: &mut Counts) {
+        let wanted = match outcome {
+            Outcome::Built(_) => Verdict::default(),
+            Outcome::Refused(verdict) => *verdict,
+        };
+        let random = &mut Random::of_case(self.build.beside, 3);
+        let before = held.found.len();
+        for beside in border::calls(&self.build, inputs, Some(wanted)) {
+            counts.checks.beside.count(&beside, self.build.fixed.is_some());
+            held.hold_beside(&beside, inputs, random);
+            // One tells enough.
+            if held.found.len() > before {
+                break;
+            }
+        }
     }
 
     /// Holds the reads of the file that was built on both sides.
@@ -143,7 +161,7 @@ impl Subject for Builds {
     }
 
     fn draw(random: &mut Random) -> Case {
-        draw::draw(random)
+        draw::draw(random, true)
     }
 
     fn for_original(case: &Case) -> String {
@@ -164,12 +182,14 @@ impl Subject for Builds {
 
     fn compare(case: &Case, answer: &Answer, counts: &mut Counts) -> Result<Vec<Disagreement>, String> {
         let (outcome, original) = wanted(&case.build, answer)?;
-        let mut held = rooms::hold(&case.build, &outcome);
+        let inputs = case.build.inputs();
+        let mut held = rooms::hold(&inputs, &outcome, case.build.of.buffers);
         held.found.extend(case.build.made_for(held.ours, original));
         if let (Some(figures), Outcome::Built(file)) = (&case.figures, &outcome) {
             held.found.extend(figures.differ(file)?);
         }
         counts.count(case, &outcome, &held, original)?;
+        case.hold_besides(&inputs, &outcome, &mut held, counts);
         if let (Outcome::Built(file), true) = (&outcome, held.found.is_empty()) {
             held.found.extend(case.hold_windows(file, answer, &mut counts.reads)?);
         }

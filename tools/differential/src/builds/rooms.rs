@@ -1,11 +1,12 @@
 //! A build, called with buffers of several lengths.
 
 use library::builds::{self as ours, ANSWERS, HEADER_SHORT, TRAILER_SHORT};
-use library::checks::Verdict;
+use library::checks::{Lent, Verdict};
 
 use super::{File, Outcome};
 use crate::buffer::Buffer;
-use crate::checks::{self, Inputs};
+use crate::checks::border::Beside;
+use crate::checks::Inputs;
 use crate::hex;
 use crate::random::Random;
 use crate::subject::Disagreement;
@@ -30,6 +31,9 @@ pub struct Calls {
     /// Bytes that had to stay.
     pub stayed: u64,
 }
+
+/// So many bytes are enough for the header or the trailer of a small file.
+const ENOUGH: usize = 4_096;
 
 /// How long the buffers are.
 struct Way {
@@ -93,15 +97,14 @@ fn verdict(number: u64, detail: u64) -> Verdict {
     Verdict { number, detail: if number == 0 { 0 } else { detail } }
 }
 
-/// Calls the build in all ways. If it is at fault with room to spare, in this way only.
-pub fn hold(case: &checks::Case, outcome: &Outcome) -> Held {
-    let inputs = case.inputs();
-    let mut random = Random::of_case(case.of.buffers, 1);
+/// Calls the build in all ways. If it is at fault with room to spare, in this way only. `buffers` decides how long they are.
+pub fn hold(inputs: &Inputs, outcome: &Outcome, buffers: u64) -> Held {
+    let mut random = Random::of_case(buffers, 1);
     let mut held = Held { ours: Verdict::default(), found: Vec::new(), calls: Calls::default() };
     for (place, way) in ways(outcome, &mut random).into_iter().enumerate() {
         // All numbers of the answer are wanted first, later any of them.
         let answers = if place == 0 { ANSWERS + random.place(2) } else { random.place(ANSWERS + 2) };
-        let [number, detail] = held.call(&inputs, outcome, &way, answers);
+        let [number, detail] = held.call(&inputs.words, inputs.lent(), outcome, &way, answers);
         if place == 0 {
             held.ours = verdict(number, detail);
             if !held.found.is_empty() {
@@ -113,13 +116,44 @@ pub fn hold(case: &checks::Case, outcome: &Outcome) -> Held {
 }
 
 impl Held {
+    /// A call beside the case's own. If it is to be refused, with buffers of any lengths; else only the number is held.
+    pub fn hold_beside(&mut self, beside: &Beside, inputs: &Inputs, random: &mut Random) {
+        let before = self.found.len();
+        match beside.wanted.number {
+            0 => self.hold_accepted(beside, inputs),
+            _ => {
+                let mut room = || random.pick(&[0, 1, 30, 200, 3_000]);
+                let way = Way { name: "any room", header: room(), trailer: room() };
+                let outcome = Outcome::Refused(beside.wanted);
+                self.call(&beside.words, beside.lent(inputs), &outcome, &way, random.place(ANSWERS + 2));
+            }
+        }
+        for Disagreement { what, expected, .. } in &mut self.found[before..] {
+            *what = format!("{}: {what}", beside.name());
+            *expected = format!("{}; {expected}", beside.told(inputs));
+        }
+    }
+
+    fn hold_accepted(&mut self, beside: &Beside, inputs: &Inputs) {
+        let [mut header, mut trailer] = [vec![0; ENOUGH], vec![0; ENOUGH]];
+        let mut answer = [0; ANSWERS];
+        let number = ours::build(&beside.words, beside.lent(inputs), &mut header, &mut trailer, &mut answer);
+        if number != 0 {
+            self.found.push(Disagreement {
+                what: format!("0 wanted, {number} answered (0: built)"),
+                expected: "built".into(),
+                ours: format!("ours: {}", told(number, &answer)),
+            });
+        }
+    }
+
     /// One call, with room for so many numbers of the answer. Answers the number and the answer's first one.
-    fn call(&mut self, inputs: &Inputs, outcome: &Outcome, way: &Way, answers: usize) -> [u64; 2] {
+    fn call(&mut self, words: &[u32], given: Lent<'_>, outcome: &Outcome, way: &Way, answers: usize) -> [u64; 2] {
         const BEFORE: u64 = 0xE1E2_E3E4_E5E6_E7E8;
         let (mut header, mut trailer) = (Buffer::new(way.header), Buffer::new(way.trailer));
         let mut answer_room = vec![BEFORE; answers + 1];
         let lent = &mut answer_room[..answers];
-        let number = ours::build(&inputs.words, inputs.lent(), header.lent(), trailer.lent(), lent);
+        let number = ours::build(words, given, header.lent(), trailer.lent(), lent);
 
         let wanted = answer(way, outcome);
         let (wanted_number, mut wanted_answer) = match wanted {

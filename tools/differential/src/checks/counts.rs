@@ -6,7 +6,7 @@ use std::fmt;
 use library::checks::Verdict;
 
 use super::fixed::{apart, shown, Fixed, Part, LAST};
-use super::Case;
+use super::{border, Case};
 
 #[derive(Default)]
 pub struct Counts {
@@ -20,6 +20,7 @@ pub struct Counts {
     /// Pairs with a case as it was made for, and with one that was not.
     met: BTreeSet<(u32, u32)>,
     missed: BTreeSet<(u32, u32)>,
+    pub beside: border::Counts,
 }
 
 #[derive(Default)]
@@ -60,6 +61,7 @@ impl Counts {
             Part::Same(..) => "  both in one element",
             Part::AtOnce(_) => "all at once, put right from the lowest on",
             Part::Limit => "limits of 1",
+            Part::Border { .. } => "the border of the words",
             Part::Named(_) => "other",
         };
         *self.fixed.entry(name).or_default() += 1;
@@ -121,6 +123,7 @@ impl fmt::Display for Counts {
         for (name, Beside { accepted, other, same }) in &self.beyond {
             writeln!(f, "  {name:42}{accepted:>10}{other:>14}{same:>12}")?;
         }
+        write!(f, "{}", self.beside)?;
         writeln!(f, "fixed cases")?;
         for name in [
             "pairs of refusals",
@@ -129,6 +132,7 @@ impl fmt::Display for Counts {
             "  both in one element",
             "all at once, put right from the lowest on",
             "limits of 1",
+            "the border of the words",
             "other",
         ] {
             let count = self.fixed.get(name).copied().unwrap_or_default();

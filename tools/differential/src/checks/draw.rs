@@ -64,7 +64,8 @@ fn wishes(random: &mut Random, faults: &[Fault]) -> Wishes {
     }
 }
 
-pub fn draw(random: &mut Random) -> Case {
+/// `outside` says whether an EMID that is off may be left outside its pool.
+pub fn draw(random: &mut Random, outside: bool) -> Case {
     let mut faults = draw_faults(random);
     let wishes = wishes(random, &faults);
     let mut case = good(random, &wishes);
@@ -76,7 +77,21 @@ pub fn draw(random: &mut Random) -> Case {
     if percent(random, 8) {
         go_beyond(random, &mut case);
     }
+    settle_id(&mut case, outside);
     case
+}
+
+/// The extent of an EMID that is off is tested too: brings it inside the pool. One of twelve stays where it is, if it may be
+/// outside.
+pub fn settle_id(case: &mut Case, outside: bool) {
+    let told = !case.beyond.contains(&Beyond::Outside(Place::Emid));
+    if case.of.info.emid[0] != 0 || outside && told && case.of.buffers.is_multiple_of(12) {
+        return;
+    }
+    let pool = case.raw_bytes() as u32;
+    let [_, start, length] = &mut case.of.info.emid;
+    *start = pool.min(*start);
+    *length = (pool - *start).min(LONGEST_TEXT).min(*length);
 }
 
 /// An accepted build.
@@ -103,6 +118,7 @@ pub fn good(random: &mut Random, wishes: &Wishes) -> Case {
         data: (0..random.between(0, 5)).map(|_| random.between(0, 255) as u8).collect(),
     });
     let callers = callers.collect();
+    let beside = of.buffers;
     let mut case = Case {
         of,
         edited_master: false,
@@ -116,6 +132,7 @@ pub fn good(random: &mut Random, wishes: &Wishes) -> Case {
         callers,
         lengths: Lengths { more: 0, place: random.between(0, 20), value: USUAL, usual: vec![USUAL] },
         beyond: Vec::new(),
+        beside,
         fixed: None,
     };
     for _ in 0..random.pick(&[0, 0, 1, 2, 3]) {

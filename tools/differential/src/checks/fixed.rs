@@ -1,8 +1,8 @@
 //! Fixed cases: every pair of refusals, every refusal at once, and the limits that the original does not have.
 
 use library::checks::{COMT, DIIN, DSTI, PROP, SOUND};
-use library::markers::{ChannelNumbers, Info, Properties, Start, INDEX, STEREO, UNSPECIFIED};
-use library::text::{Conversion, Extent, Switches, REPLACE};
+use library::markers::{ChannelNumbers, Info, Properties, Start, INDEX, OF_TRACK_THEN_ALBUM, STEREO, UNSPECIFIED};
+use library::text::{Conversion, Extent, Switches, D2, REPLACE};
 
 use super::{Beyond, Caller, Case, Comments, Lengths, Place, LONGEST_CALLER_DATA, LONGEST_TEXT, USUAL};
 use super::{MOST_CALLERS, MOST_MARKERS, MOST_TRACKS};
@@ -34,6 +34,8 @@ pub enum Part {
     AtOnce(u32),
     /// A limit of 1.
     Limit,
+    /// An accepted case, plain or with all options on, that the fixed calls at the border are made with.
+    Border { full: bool },
     /// What this says.
     Named(&'static str),
 }
@@ -47,6 +49,7 @@ impl Fixed {
             Part::Same(a, b) => format!("{a} and {b} in one element"),
             Part::AtOnce(first) => format!("all at once from {first} on"),
             Part::Limit => "a limit".into(),
+            Part::Border { .. } => "the border of the words".into(),
             Part::Named(name) => name.into(),
         }
     }
@@ -160,6 +163,7 @@ pub fn plain(Context { dst, edited_master }: Context) -> Case {
         callers: Vec::new(),
         lengths: Lengths { more: 0, place: 0, value: USUAL, usual: vec![USUAL] },
         beyond: Vec::new(),
+        beside: 0,
         fixed: None,
     };
     if edited_master {
@@ -517,10 +521,66 @@ fn limits(cases: &mut Vec<Case>) {
     }
 }
 
+/// An accepted case with all options on but the edited master, which excludes custom markers.
+fn full() -> Case {
+    let mut case = plain(CONTEXTS[1]);
+    (case.dst_crc, case.dst_index, case.frame_data) = (true, true, true);
+    case.idle = Some(0x3F);
+    case.comments = vec![comments(1, [2, 1], 1)];
+    case.callers = vec![caller(b"AAAA")];
+    let of = &mut case.of;
+    (of.pool, of.raw) = (vec![0x41], vec![0x41]);
+    of.tracks = vec![track(0, 1)];
+    of.custom = vec![marker(0, NONE)];
+    let start = Start { given: true, frame: 1 };
+    of.properties = Properties {
+        layout: UNSPECIFIED,
+        channels: 3,
+        numbers: ChannelNumbers { given: true, count: 3, numbers: [1, 2, 3, 4, 5, 6] },
+        start,
+        unspecified_loudspeaker_configuration: true,
+        d1: true,
+        ..of.properties
+    };
+    let text = [1, 0, 1];
+    of.info = Info {
+        on: true,
+        emid: text,
+        custom_markers: true,
+        source_track: 1,
+        source_track_markers: true,
+        clipped_program: true,
+        titles: true,
+        start,
+        conversion: Conversion { rule: D2, ..of.info.conversion },
+        switches: Switches { empty_text: true, text_pad_counted: true },
+        artist_title: true,
+        artist_title_source: OF_TRACK_THEN_ALBUM,
+        album_artist: text,
+        album_title: text,
+        track_artist: text,
+        track_title: text,
+        ..of.info
+    };
+    case
+}
+
+/// The cases that the fixed calls at the border are made with.
+fn border(cases: &mut Vec<Case>) {
+    for (full, mut case) in [(false, plain(CONTEXTS[0])), (true, full())] {
+        case.fixed = Some(Fixed { part: Part::Border { full }, ours: 0, original: 0 });
+        cases.push(case);
+    }
+}
+
 pub fn fixed() -> Vec<Case> {
     let mut cases = Vec::new();
     pairs(&mut cases);
     at_once(&mut cases);
     limits(&mut cases);
+    border(&mut cases);
+    for (number, case) in (1..).zip(&mut cases) {
+        case.beside = number;
+    }
     cases
 }

@@ -1,5 +1,6 @@
 //! Checks: the verdict on a build's inputs.
 
+pub mod border;
 pub mod counts;
 pub mod draw;
 mod faults;
@@ -7,8 +8,8 @@ pub mod fixed;
 pub mod simplify;
 
 use library::checks::{self as ours, Build, Lent, Verdict};
-use library::checks::{ARTIST_TITLE, LOW_BYTES, LOW_HALVES, OFF, ON, SWITCHES, UNSET};
-use library::markers::UNSPECIFIED;
+use library::checks::{COMT, OFF, ON, SWITCHES, UNSET};
+use library::markers::{Marker, INDEX, OF_TRACK_THEN_ALBUM, PROGRAM_START, UNSPECIFIED};
 use library::text::{D2, REMOVE};
 
 use self::counts::Counts;
@@ -26,8 +27,8 @@ pub struct Checks;
 /// The inputs of a build, at fault or not.
 #[derive(Clone, PartialEq)]
 pub struct Case {
-    /// What PROP and DIIN tell, tracks, markers and pools. Where DIIN stands is not read; `buffers` decides what words are
-    /// like where several mean the same.
+    /// What PROP and DIIN tell, tracks, markers and pools. Where DIIN stands is not read; `buffers` decides what the words of
+    /// switches are like, where several mean the same.
     pub of: markers::Case,
     pub edited_master: bool,
     /// The replacement under D2, which is tested though nothing uses it.
@@ -42,6 +43,8 @@ pub struct Case {
     pub lengths: Lengths,
     /// What only one side is told.
     pub beyond: Vec<Beyond>,
+    /// Decides the further calls with other words and markers; 0 for none.
+    pub beside: u64,
     /// Of a fixed case, what it is for.
     pub fixed: Option<Fixed>,
 }
@@ -195,7 +198,17 @@ impl Case {
         lengths
     }
 
-    /// Refusals of ours that the original does not have, though it is told the same.
+    /// How many bytes the byte pool has as it is lent.
+    fn raw_bytes(&self) -> usize {
+        self.of.raw.len() + self.callers.iter().map(|caller| caller.data.len()).sum::<usize>()
+    }
+
+    /// Whether an extent is outside the byte pool.
+    fn is_outside(&self, [_, start, length]: [u32; 3]) -> bool {
+        u64::from(start) + u64::from(length) > self.raw_bytes() as u64
+    }
+
+    /// Refusals of ours that the original does not have, though it is told the same (but for the extent of an EMID that is off).
     fn over(&self) -> Option<(&'static str, u32)> {
         let info = &self.of.info;
         let given = |text: [u32; 3]| text[0] != 0 && text[2] > LONGEST_TEXT;
@@ -207,6 +220,8 @@ impl Case {
             Some(("1: a long tag", 1))
         } else if given(info.emid) {
             Some(("1: a long EMID", 1))
+        } else if info.emid[2] > LONGEST_TEXT {
+            Some(("1: a long EMID that is off", 1))
         } else if titles {
             Some(("1: a long title", 1))
         } else if texts {
@@ -221,6 +236,8 @@ impl Case {
             Some(("1: more than 65,535 markers", 1))
         } else if self.callers.iter().any(|caller| caller.data.len() > LONGEST_CALLER_DATA) {
             Some(("1: a long caller chunk", 1))
+        } else if info.emid[0] == 0 && self.is_outside(info.emid) {
+            Some(("2: an EMID that is off outside its pool", 2))
         } else if info.playtime > LONGEST_PLAYTIME {
             Some(("6: a long playtime", 6))
         } else {
@@ -239,8 +256,13 @@ impl Case {
         })
     }
 
+    /// The single values, with numbers that name something: those above the last name are as the last here.
     fn build(&self) -> Build {
-        let mut properties = self.of.properties;
+        let (mut properties, mut info) = (self.of.properties, self.of.info);
+        properties.layout = properties.layout.min(UNSPECIFIED);
+        properties.order = properties.order.map(|name| name.min(4));
+        info.order = info.order.map(|name| name.min(3));
+        info.artist_title_source = info.artist_title_source.min(OF_TRACK_THEN_ALBUM);
         for beyond in &self.beyond {
             if let Beyond::Layout(layout) = *beyond {
                 properties.layout = layout;
@@ -253,7 +275,7 @@ impl Case {
         };
         Build {
             properties,
-            info: self.of.info,
+            info,
             edited_master: self.edited_master,
             dst_crc: self.dst_crc,
             dst_index: self.dst_index,
@@ -261,9 +283,30 @@ impl Case {
             artist_title,
             replacement: self.replacement(),
             d2: self.d2(),
-            local_order: self.local_order,
+            local_order: self.local_names(),
             local_count: self.local_count,
         }
+    }
+
+    /// The local order. Past the count a name is any, as it is not looked at.
+    fn local_names(&self) -> [u8; 5] {
+        let mut names = self.local_order.map(|name| name % (COMT + 1));
+        let count = (self.local_count as usize).min(names.len());
+        for (name, &meant) in names[..count].iter_mut().zip(&self.local_order) {
+            *name = meant.min(COMT);
+        }
+        names
+    }
+
+    /// The markers. A kind without a name is an index here; where it is not looked at, it stays.
+    fn marker_rows(&self) -> Vec<Marker> {
+        let mut rows = self.of.marker_rows();
+        if self.of.info.custom_markers && self.of.info.on {
+            for row in rows.iter_mut().filter(|row| row[1] >> 16 > PROGRAM_START) {
+                row[1] = INDEX << 16 | row[1] & 0xFFFF;
+            }
+        }
+        rows
     }
 
     /// What the library is given.
@@ -274,7 +317,7 @@ impl Case {
             pool: of.pool.clone(),
             raw: of.raw.clone(),
             tracks: of.track_rows().concat(),
-            markers: of.marker_rows().concat(),
+            markers: self.marker_rows().concat(),
             comments: Vec::new(),
             callers: Vec::new(),
             lengths: Vec::new(),
@@ -300,6 +343,7 @@ impl Case {
 }
 
 /// What the library is given, rows one after the other.
+#[derive(Clone)]
 pub struct Inputs {
     pub words: Vec<u32>,
     pub pool: Vec<u32>,
@@ -372,29 +416,12 @@ impl Inputs {
         }
     }
 
-    /// Other words that mean the same.
+    /// Other words that mean the same: a switch that is on.
     fn disguise(&mut self, random: &mut Random) {
         for place in SWITCHES {
             if self.words[place] != 0 && random.one_in(4) {
                 self.words[place] = random.pick(&[2, 256, 0x8000_0000, u32::MAX]);
             }
-        }
-        if self.words[ARTIST_TITLE] >= OFF.into() && random.one_in(4) {
-            self.words[ARTIST_TITLE] = random.pick(&[3, 257, 0x8000_0001, u32::MAX]);
-        }
-        for (places, bits) in [(&LOW_BYTES[..], 8), (&LOW_HALVES[..], 16)] {
-            for &place in places {
-                if random.one_in(8) {
-                    self.words[place] |= random.between(0, u32::MAX) << bits;
-                }
-            }
-        }
-        while self.words.last() == Some(&0) && !random.one_in(8) {
-            self.words.pop();
-        }
-        if random.one_in(8) {
-            self.words.resize(ours::WORDS, 0);
-            self.words.push(random.between(0, u32::MAX));
         }
     }
 
@@ -464,7 +491,7 @@ impl Subject for Checks {
     }
 
     fn draw(random: &mut Random) -> Case {
-        draw::draw(random)
+        draw::draw(random, true)
     }
 
     fn for_original(case: &Case) -> String {
@@ -542,6 +569,18 @@ impl Subject for Checks {
         }
         found.extend(case.made_for(ours, original));
         counts.count(case, ours, original, found.is_empty());
+        let known = match wanted {
+            Wanted::Only(verdict) => Some(verdict),
+            Wanted::After(_) => None,
+        };
+        for beside in border::calls(case, &inputs, known) {
+            counts.beside.count(&beside, case.fixed.is_some());
+            // One tells enough.
+            if let Some(differs) = beside.hold(&inputs) {
+                found.push(differs);
+                break;
+            }
+        }
         Ok(found)
     }
 

@@ -15,6 +15,7 @@ pub fn simplify(case: &mut Case, fails: Fails<'_, Case>) -> Result<(), Halt> {
         return Ok(());
     }
     keep(case, fails, |case| case.beyond.clear())?;
+    keep(case, fails, |case| case.beside = 0)?;
     keep(case, fails, |case| case.of.buffers = 0)?;
     simplify_list(case, |case| case.comments.len(), without(|case| &mut case.comments), fails)?;
     simplify_list(case, |case| case.callers.len(), without(|case| &mut case.callers), fails)?;

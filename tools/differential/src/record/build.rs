@@ -1,7 +1,7 @@
 //! The record of a build.
 
 use library::builds::{HEADER_SHORT, TRAILER_SHORT};
-use library::checks::{Verdict, WORDS};
+use library::checks::Verdict;
 
 use super::pack;
 use crate::builds::{File, Outcome};
@@ -18,8 +18,7 @@ const LONGEST_TRAILER: usize = 8_192;
 /// All words of a build, lists with their counts in front.
 fn all_words(inputs: &Inputs) -> Vec<u32> {
     let Inputs { words, pool, tracks, markers, comments, callers, lengths, .. } = inputs;
-    // Words past the end count as 0, and further ones not at all.
-    let mut all: Vec<u32> = words.iter().copied().chain([0; WORDS]).take(WORDS).collect();
+    let mut all = words.clone();
     for list in [pool, tracks, markers, comments, callers, lengths] {
         all.push(list.len() as u32);
         all.extend(list);

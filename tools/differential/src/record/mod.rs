@@ -2,6 +2,7 @@
 //! again. Where the original has no such refusal, the answer is document 01's, and is marked so.
 
 mod build;
+mod chosen;
 mod file;
 mod limits;
 mod pack;
@@ -15,6 +16,7 @@ use crate::builds::fixed::{of_checks, own};
 use crate::builds::limits::{limits, NAME as LIMITS};
 use crate::builds::{self, wanted, Builds, Outcome};
 use crate::checks::fixed::{Fixed, Part};
+use crate::checks::{self, border};
 use crate::original::{Answer, Original};
 use crate::random::Random;
 use crate::reads::file::File;
@@ -41,6 +43,12 @@ const WINDOWS: usize = 40;
 
 #[derive(Default)]
 struct Recorder {
+    /// Which drawn builds are recorded: these, or, if none are given, so many that are short and accepted, and a few of
+    /// each refusal.
+    given: bool,
+    count: u64,
+    /// Those that are recorded.
+    taken: Vec<u64>,
     records: Vec<Vec<u8>>,
     /// Builds, and windows of files, by what they are for.
     builds: BTreeMap<String, u64>,
@@ -62,7 +70,7 @@ impl Recorder {
     }
 
     /// What a build is recorded as, and how many of the like there can be.
-    fn name(&mut self, fixed: Option<Fixed>, number: u32, count: u64) -> Option<(String, u64)> {
+    fn name(&mut self, fixed: Option<Fixed>, number: u32) -> Option<(String, u64)> {
         Some(match fixed.map(|fixed| fixed.part) {
             Some(Part::Named(name)) => {
                 let few = FEW.iter().find(|(other, _)| *other == name);
@@ -73,29 +81,30 @@ impl Recorder {
             Some(Part::Pair(a, b)) if self.pairs.insert((a, b)) => ("two refusals".to_owned(), u64::MAX),
             Some(Part::Turned(..) | Part::Same(..)) => ("two refusals, by element".to_owned(), u64::MAX),
             Some(Part::AtOnce(_)) => ("many refusals".to_owned(), u64::MAX),
-            Some(Part::Pair(..) | Part::Left(..)) => return None,
-            None if number == 0 => ("drawn, accepted".to_owned(), count),
-            None => (format!("drawn, refused {number:>2}"), OF_EACH),
+            Some(Part::Pair(..) | Part::Left(..) | Part::Border { .. }) => return None,
+            None if number == 0 => ("drawn, accepted".to_owned(), if self.given { u64::MAX } else { self.count }),
+            None => (format!("drawn, refused {number:>2}"), if self.given { u64::MAX } else { OF_EACH }),
         })
     }
 
-    fn take_build(&mut self, case: &builds::Case, answer: &Answer, count: u64) -> Result<(), String> {
+    /// A fixed build, or the drawn one of this number.
+    fn take_build(&mut self, drawn: Option<u64>, case: &builds::Case, answer: &Answer) -> Result<(), String> {
+        self.take_border(&case.build)?;
         let (outcome, original) = wanted(&case.build, answer)?;
         let (number, alone) = match &outcome {
             Outcome::Built(_) => (0, false),
             Outcome::Refused(verdict) => (verdict.number, *verdict != original),
         };
-        let Some((name, most)) = self.name(case.build.fixed, number, count) else {
+        let Some((name, most)) = self.name(case.build.fixed, number) else {
             return Ok(());
         };
         let so_far = self.builds.get(&name).copied().unwrap_or(0);
         if so_far >= most {
             return Ok(());
         }
-        let drawn = case.build.fixed.is_none();
         match build::record(&case.build.inputs(), &outcome, alone) {
-            Some(record) if !drawn || record.len() <= MOST_DRAWN => self.push(record)?,
-            _ if drawn => {
+            Some(record) if drawn.is_none() || self.given || record.len() <= MOST_DRAWN => self.push(record)?,
+            _ if drawn.is_some() => {
                 self.too_long += 1;
                 return Ok(());
             }
@@ -104,13 +113,25 @@ impl Recorder {
                 return Ok(());
             }
         }
+        self.taken.extend(drawn);
         *self.builds.entry(name).or_default() += 1;
         match (&case.ours, &outcome) {
-            (Some(file), Outcome::Built(_)) if drawn && so_far < FILES => {
+            (Some(file), Outcome::Built(_)) if drawn.is_some() && so_far < FILES => {
                 self.take_windows("of drawn builds", file, &case.asked, answer, None).map(drop)
             }
             _ => Ok(()),
         }
+    }
+
+    /// Of the border's plain case, the calls with one fault. They are by document 01's numbers alone.
+    fn take_border(&mut self, case: &checks::Case) -> Result<(), String> {
+        let inputs = case.inputs();
+        for call in border::with_one_fault(case, &inputs) {
+            let record = build::record(&call.inputs(&inputs), &Outcome::Refused(call.wanted), true);
+            self.push(record.ok_or("a long call at the border")?)?;
+            *self.builds.entry(format!("at the border, {}", call.name())).or_default() += 1;
+        }
+        Ok(())
     }
 
     /// Records the windows of a file, and answers what was told of it, with the windows.
@@ -203,17 +224,39 @@ fn with_few_windows(mut case: reads::Case, random: &mut Random) -> reads::Case {
     case
 }
 
-/// Records the fixed builds, `count` accepted ones of the seed, a few of each refusal, and windows of files.
-pub fn record(program: &Path, seed: u64, count: u64, file: &Path) -> Result<(), String> {
+/// What is recorded, and where.
+pub struct Task<'a> {
+    pub seed: u64,
+    /// How many accepted builds are chosen.
+    pub count: u64,
+    /// The drawn builds that are recorded instead: a list that was made before.
+    pub cases: Option<&'a Path>,
+    pub file: &'a Path,
+    /// Where the list of the chosen ones is written.
+    pub chosen: &'a Path,
+}
+
+/// Records the fixed builds, drawn ones, and windows of files.
+pub fn record(program: &Path, task: &Task<'_>) -> Result<(), String> {
+    let &Task { seed, count, cases, file, chosen } = task;
     let mut original = Original::start(program)?;
-    let mut recorder = Recorder::default();
+    let given = cases.map(|cases| chosen::read(cases, seed)).transpose()?;
+    let mut recorder = Recorder { given: given.is_some(), count, ..Recorder::default() };
     // Enough, as about one in two of the drawn is small and accepted.
-    let drawn = (0..4 * count).map(|number| Builds::draw(&mut Random::of_case(seed, number)));
-    let cases = own().into_iter().chain(limits()).chain(of_checks()).chain(drawn).map(|case| {
-        let lines = Builds::for_original(&case);
-        (case, lines)
+    let numbers = given.unwrap_or_else(|| (0..4 * count).collect());
+    let fixed = own().into_iter().chain(limits()).chain(of_checks()).map(|case| (None, case));
+    let drawn = numbers.into_iter().map(|number| {
+        let case = builds::draw::draw(&mut Random::of_case(seed, number), false);
+        (Some(number), case)
     });
-    original.ask_all(cases, |_, case, answer| recorder.take_build(&case, &answer, count))?;
+    let cases = fixed.chain(drawn).map(|(number, case)| {
+        let lines = Builds::for_original(&case);
+        ((number, case), lines)
+    });
+    original.ask_all(cases, |_, (number, case), answer| recorder.take_build(number, &case, &answer))?;
+    if !recorder.given {
+        chosen::write(chosen, seed, &recorder.taken)?;
+    }
     let files = (0..).zip(Reads::fixed()).map(|(number, case)| {
         let case = with_few_windows(case, &mut Random::of_case(seed, number));
         let lines = Reads::for_original(&case);
