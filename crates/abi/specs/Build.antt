@@ -9,7 +9,8 @@ use Rattle.build_answer.specs.declared.answer.Answer.{Answer}
 use Rattle.build_answer.specs.Answer.{numberOf, valuesOf}
 use Rattle.word_builds.specs.Build.{BuildsUnless}
 
--- of buffers h and t for header and trailer, and a for the values, as many as it has room for: that promise, of an answer with this number and these values
+-- of words with the fault f that mean the inputs x, buffers h and t for header and trailer, and a for the values, as many as it has room for: what a build from words promises, of an
+-- answer with this number and these values
 pub record Exported (f : Verdict) (x : Inputs) (h h′ t t′ a a′ : List ℕ) (n : ℕ) : Type 0 where
   pub answer : Answer
   pub promise : BuildsUnless f x h h′ t t′ answer
