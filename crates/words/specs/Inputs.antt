@@ -1,4 +1,5 @@
--- What the words of a build's inputs mean. Assumes nothing.
+-- What the words of a build's inputs mean. Words that are too wide for their field, or that name nothing, are refused before (specs/Border.antt); without such a fault each field is its
+-- word (specs/Exact.antt). Assumes nothing.
 use Prim.Native.Nat.{ℕ}
 use mathlib.Core.List.{List, [], _∷_}
 use Rattle.prop_fields.specs.declared.layout.ChannelNumbers.{ChannelNumbers}
