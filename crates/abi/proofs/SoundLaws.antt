@@ -8,7 +8,8 @@ use lib.ListN.{length}
 use Rattle.sound_reads.specs.declared.lent.Fill.{Fill}
 use Rattle.window.specs.Window.{shown, after}
 use Rattle.sound_reads.specs.Fill.{Filling}
-use Rattle.abi.specs.Sound.{countOf, Count}
+use Rattle.abi.specs.Sound.{Count}
+use Rattle.abi.specs.Steps.{countOf}
 
 from-zero : (a o : ℕ) → 0 + min a (o - 0) ≡ min a o
 from-zero a o = omega arith

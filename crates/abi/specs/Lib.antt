@@ -1,4 +1,5 @@
 pub mod Sound
+pub mod Steps
 pub mod Verdict
 pub mod Build
 pub mod Reads

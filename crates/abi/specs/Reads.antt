@@ -20,7 +20,7 @@ pub record Queried (a : QueryAnswer) (values : List ℕ) (n : ℕ) : Type 0 wher
   pub both : values ≡ queryValues a
 
 -- of a read: what a read promises, of an answer with this number and value
-pub record Read (q : Request) (out last value : List ℕ) (n : ℕ) : Type 0 where
+pub record ReadAnswered (q : Request) (out last value : List ℕ) (n : ℕ) : Type 0 where
   pub answer : ReadAnswer
   pub promise : Reads q out last answer
   pub number : n ≡ readNumber answer

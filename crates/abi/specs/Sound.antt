@@ -4,14 +4,7 @@ use Prim.Native.Nat.{ℕ, _-_, _^_, min}
 use mathlib.Core.Bool.{Bool, cond}
 use mathlib.Core.List.{List}
 use lib.ListN.{length, drop}
-use Rattle.cursor.specs.Append.{overlay}
-use Rattle.sound_reads.specs.declared.lent.Fill.{Fill}
-use Rattle.sound_reads.specs.declared.lent.Fill.the-variants.{Filled, NotLent}
-
--- the bytes that a read filled, or the largest usize
-abbrev pub countOf : Fill → ℕ
-countOf (Filled w) = w .at
-countOf NotLent = 2 ^ 64 - 1
+use Rattle.chunk.specs.Append.{overlay}
 
 -- the answer of a read of these bytes from the buffer's front on, and the buffer after it: if what the read needs is not lent, nothing is written
 pub record Count (lent : Bool) (bytes : List ℕ) (skip : ℕ) (out last : List ℕ) (r : ℕ) : Type 0 where

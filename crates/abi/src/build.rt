@@ -1,8 +1,8 @@
 // A build. The words are those of `jangqeruz_verdict`.
 ghost use mathlib.Core.Path.{_≡_};
 ghost use lib.ListN.{set};
-ghost use Rattle.cursor.specs.Append.{overlay};
-ghost use Rattle.words.specs.Inputs.{inputsOf};
+ghost use Rattle.chunk.specs.Append.{overlay};
+ghost use Rattle.words.specs.Inputs.{inputsOfWords};
 ghost use Rattle.words.specs.Border.{wordsFault};
 ghost use Rattle.abi.specs.Build.{Exported};
 
@@ -39,7 +39,7 @@ pub extern "C" fn jangqeruz_build(
     trailer: &mut [u8],
     answer: &mut [u64],
 ) -> u64
-    ensures { λ r. ⌜ Exported (wordsFault (now (words .entry))) (inputsOf (now (words .entry)) (now (pool .entry)) (now (raw .entry)) (now (tracks .entry)) (now (markers .entry)) (now (comments .entry)) (now (callers .entry)) (now (lengths .entry)))
+    ensures { λ r. ⌜ Exported (wordsFault (now (words .entry))) (inputsOfWords (now (words .entry)) (now (pool .entry)) (now (raw .entry)) (now (tracks .entry)) (now (markers .entry)) (now (comments .entry)) (now (callers .entry)) (now (lengths .entry)))
         (now (header .entry)) (now (header .exit)) (now (trailer .entry)) (now (trailer .exit)) (now (answer .entry)) (now (answer .exit)) r ⌝ }
 {
     let a = word_builds::build::build(

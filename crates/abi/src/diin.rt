@@ -1,11 +1,11 @@
 // DIIN. What is written into `out` is what fits of it; the answer is the length of all of it.
-ghost use Rattle.cursor.specs.Append.{Appended};
+ghost use Rattle.chunk.specs.Append.{Appended};
 ghost use Rattle.tree.specs.Tree.{bytes};
 ghost use Rattle.master_info.specs.Diin.{diin};
 ghost use Rattle.meanings.specs.Text.{optionsOf};
 ghost use Rattle.meanings.specs.Property.{startOf};
 ghost use Rattle.meanings.specs.Diin.{givenText, sourceOf, infoOrderOf};
-use cursor::Cursor;
+use chunk::Cursor;
 use master_info::diin::Info;
 use master_info::pick::ArtistTitle;
 use tracks::order::ProgramOptions;

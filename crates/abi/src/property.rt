@@ -1,9 +1,9 @@
 // PROP. What is written into `out` is what fits of it; the answer is the length of all of it.
-ghost use Rattle.cursor.specs.Append.{Appended};
+ghost use Rattle.chunk.specs.Append.{Appended};
 ghost use Rattle.tree.specs.Tree.{bytes};
 ghost use Rattle.prop.specs.Property.{property};
 ghost use Rattle.meanings.specs.Property.{soundOf, layoutOf, startOf, propertyOrderOf};
-use cursor::Cursor;
+use chunk::Cursor;
 use prop::property::Properties;
 use prop_fields::layout::ChannelNumbers;
 

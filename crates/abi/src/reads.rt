@@ -3,7 +3,7 @@
 ghost use mathlib.Core.Path.{_≡_};
 ghost use Rattle.file_query.specs.Query.{queryOf};
 ghost use Rattle.file_read.specs.Read.{requestOf};
-ghost use Rattle.abi.specs.Reads.{formatOf, Queried, Read};
+ghost use Rattle.abi.specs.Reads.{formatOf, Queried, ReadAnswered};
 use read_rules::format::SoundFormat;
 
 fn format(dst: bool, crc: bool, channels: u8, positions: u32) -> SoundFormat
@@ -58,7 +58,7 @@ pub extern "C" fn jangqeruz_read(
     frames: &[u8],
     contents: &[u8],
 ) -> u64
-    ensures { λ r. ⌜ Read
+    ensures { λ r. ⌜ ReadAnswered
         (requestOf (formatOf dst crc channels positions) (now (lengths .entry)) (now (header .entry)) (now (trailer .entry)) offset (now (lent .entry)) (now (frames .entry)) (now (contents .entry)))
         (now (out .entry)) (now (out .exit)) (now (filled .exit)) r ⌝ }
 {

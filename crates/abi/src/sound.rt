@@ -5,17 +5,18 @@ ghost use mathlib.Core.List.{[], _∷_};
 ghost use Prim.Native.Nat.{_*_};
 ghost use lib.Dec.{eqb};
 ghost use lib.ListN.{length, replicate};
-ghost use Rattle.cursor.specs.Append.{Appended, moved};
+ghost use Rattle.chunk.specs.Append.{Appended, moved};
 ghost use Rattle.checksum.specs.Crc.{crcOf};
 ghost use Rattle.dst.specs.Frame.{frameBytes, plainBytes, dsdSound};
 ghost use Rattle.dst.specs.Unit.{sound, sizes};
-ghost use Rattle.sound_reads.specs.Positions.{positions, number, between};
+ghost use Rattle.sound_reads.specs.Positions.{positionsFor, number, between};
 ghost use Rattle.dst.specs.Head.{head};
 ghost use Rattle.dst_index.specs.Index.{shiftOf, index};
 ghost use Rattle.sound_reads.specs.Lent.{isLent, framesWith, contentsWith};
 ghost use Rattle.meanings.specs.Sound.{offsetOf};
-ghost use Rattle.abi.specs.Sound.{countOf, Count};
-use cursor::Cursor;
+ghost use Rattle.abi.specs.Sound.{Count};
+ghost use Rattle.abi.specs.Steps.{countOf};
+use chunk::Cursor;
 use sound_reads::lent::Fill;
 use window::window::Window;
 
@@ -78,7 +79,7 @@ pub extern "C" fn jangqeruz_dst_positions(
     from: u64,
     count: u64,
 )
-    ensures { λ r. ⌜ now (range .exit) ≡ positions (sizes crc (now (lengths .entry))) from count .first ∷ positions (sizes crc (now (lengths .entry))) from count .end ∷ [] ⌝ }
+    ensures { λ r. ⌜ now (range .exit) ≡ positionsFor (sizes crc (now (lengths .entry))) from count .first ∷ positionsFor (sizes crc (now (lengths .entry))) from count .end ∷ [] ⌝ }
 {
     let p = dst_reads::dst_data::positions(crc, lengths, from, count);
     *range = [p.first, p.end];
@@ -92,7 +93,7 @@ pub extern "C" fn jangqeruz_dsd_positions(
     from: u64,
     count: u64,
 )
-    ensures { λ r. ⌜ now (range .exit) ≡ positions (replicate n (frameBytes channels)) from count .first ∷ positions (replicate n (frameBytes channels)) from count .end ∷ [] ⌝ }
+    ensures { λ r. ⌜ now (range .exit) ≡ positionsFor (replicate n (frameBytes channels)) from count .first ∷ positionsFor (replicate n (frameBytes channels)) from count .end ∷ [] ⌝ }
 {
     let p = dsd_reads::dsd_data::positions(channels, n, from, count);
     *range = [p.first, p.end];
@@ -110,9 +111,9 @@ pub extern "C" fn jangqeruz_dst_fill(
     contents: &[u8],
 ) -> usize
     ensures { λ r. ⌜ Count
-        (isLent (plainBytes crc channels) (between (positions (sizes crc (now (lengths .entry))) skip (length (now (out .entry)))) (now (lengths .entry)))
+        (isLent (plainBytes crc channels) (between (positionsFor (sizes crc (now (lengths .entry))) skip (length (now (out .entry)))) (now (lengths .entry)))
         (now (lent .entry)) (now (frames .entry)) (now (contents .entry)))
-        (sound crc (framesWith (plainBytes crc channels) (positions (sizes crc (now (lengths .entry))) skip (length (now (out .entry)))) (now (lengths .entry))
+        (sound crc (framesWith (plainBytes crc channels) (positionsFor (sizes crc (now (lengths .entry))) skip (length (now (out .entry)))) (now (lengths .entry))
         (now (frames .entry)) (now (contents .entry))))
         skip (now (out .entry)) (now (out .exit)) r ⌝ }
 {
@@ -129,8 +130,8 @@ pub extern "C" fn jangqeruz_dsd_fill(
     contents: &[u8],
 ) -> usize
     ensures { λ r. ⌜ Count
-        (eqb (frameBytes channels * number (positions (replicate n (frameBytes channels)) skip (length (now (out .entry))))) (length (now (contents .entry))))
-        (dsdSound (contentsWith (frameBytes channels) (positions (replicate n (frameBytes channels)) skip (length (now (out .entry)))) n (now (contents .entry))))
+        (eqb (frameBytes channels * number (positionsFor (replicate n (frameBytes channels)) skip (length (now (out .entry))))) (length (now (contents .entry))))
+        (dsdSound (contentsWith (frameBytes channels) (positionsFor (replicate n (frameBytes channels)) skip (length (now (out .entry)))) n (now (contents .entry))))
         skip (now (out .entry)) (now (out .exit)) r ⌝ }
 {
     let start = Window { at: 0, skip };

@@ -1,11 +1,11 @@
 // Texts. A text is `length` values of `pool` from `start` on. What is written into `out` is what fits of it; the answer is the length of all of it.
-ghost use Rattle.cursor.specs.Append.{Appended};
+ghost use Rattle.chunk.specs.Append.{Appended};
 ghost use Rattle.texts.specs.Extent.{part};
 ghost use Rattle.texts.specs.Text.{textBytes};
 ghost use Rattle.diin_texts.specs.DiinText.{diinText};
 ghost use Rattle.comt.specs.Comment.{comt};
 ghost use Rattle.meanings.specs.Text.{ruleOf, optionsOf, textOf};
-use cursor::Cursor;
+use chunk::Cursor;
 use texts::extent::Extent;
 
 // A text's bytes.

@@ -4,7 +4,7 @@ ghost use mathlib.Core.Path.{_≡_};
 ghost use Rattle.checks.specs.InputVerdict.{verdict};
 ghost use Rattle.refusal.specs.Verdict.{orElse};
 ghost use Rattle.words.specs.Border.{wordsFault};
-ghost use Rattle.words.specs.Inputs.{inputsOf};
+ghost use Rattle.words.specs.Inputs.{inputsOfWords};
 ghost use Rattle.abi.specs.Verdict.{answer};
 use refusal::verdict::Verdict;
 
@@ -27,7 +27,7 @@ pub extern "C" fn jangqeruz_verdict(
     callers: &[u32],
     lengths: &[u32],
 ) -> u64
-    ensures { λ r. ⌜ r ≡ answer (orElse (wordsFault (now (words .entry))) (verdict (inputsOf (now (words .entry)) (now (pool .entry)) (now (raw .entry))
+    ensures { λ r. ⌜ r ≡ answer (orElse (wordsFault (now (words .entry))) (verdict (inputsOfWords (now (words .entry)) (now (pool .entry)) (now (raw .entry))
         (now (tracks .entry)) (now (markers .entry)) (now (comments .entry)) (now (callers .entry)) (now (lengths .entry))))) ⌝ }
 {
     let v = words::verdict::verdict(

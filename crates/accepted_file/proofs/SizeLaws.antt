@@ -9,13 +9,13 @@ use native.Mathlib.Omega.{arith}
 use lib.Dec.{eqb}
 use borrow.Author.Tests.{eqb-false}
 use lib.ListN.{length, getD, take, drop, length-append, length-take}
-use Rattle.cursor.specs.Number.{be}
+use Rattle.chunk.specs.Number.{be}
 use Rattle.chunk_names.specs.Name.{ascii}
 use Rattle.chunk.specs.Chunk.{chunk, occupied}
 use Rattle.tree.specs.Tree.{stop, node, bytes, each}
 use Rattle.chunk_names.specs.declared.LocalChunk.{LocalChunk}
 use Rattle.chunk_names.specs.declared.LocalChunk.the-variants.{Property, SoundData, DstIndex, EditedMasterInfo, Comments}
-use Rattle.cursor.proofs.NumberLaws.{length-be}
+use Rattle.chunk.proofs.NumberLaws.{length-be}
 use Rattle.chunk.proofs.ChunkLaws.{length-chunk}
 use Rattle.chunk.proofs.ListLaws.{flatMap-bound}
 use Rattle.tree.proofs.TreeLaws.{bytes-stop, bytes-leaf, bytes-node}
@@ -36,7 +36,7 @@ use Rattle.prop.proofs.PropertyLaws.{property-short}
 use Rattle.master_info.specs.Diin.{infoChunks, hasDiin, diin}
 use Rattle.refusal.specs.Orders.{localRank, times}
 use Rattle.refusal.specs.declared.verdict.Verdict.the-variants.{Accepted}
-use Rattle.build_options.specs.Area.{positions, isDst}
+use Rattle.build_options.specs.Area.{areaPositions, isDst}
 use Rattle.build_options.specs.Inputs.{Inputs}
 use Rattle.checks.specs.InputVerdict.{verdict}
 use Rattle.checks.proofs.AcceptedLaws as accepted
@@ -99,13 +99,13 @@ named-once x ok rank h named =
     rw (rank-take (min (x .localCount) 5) (x .localOrder)) (one-of _ (accepted.local-once x ok rank h) (eqb-false _ 0 named))
 
 module _ (x : Inputs) (ok : verdict x ≡ Accepted) (sized : Ordered x) where
-  pub positions-few : positions (x .area) ≤ 1_151_999
+  pub positions-few : areaPositions (x .area) ≤ 1_151_999
   positions-few = omega (arith, accepted.range-inside x ok .1, accepted.playtime-bound x ok)
 
   pub lengths-few : length (x .lengths) ≤ 1_151_999
   lengths-few = rw (accepted.lengths-number x ok) (go (isDst (x .area .sound)))
     where
-      go : (b : Bool) → cond b (positions (x .area)) 0 ≤ 1_151_999
+      go : (b : Bool) → cond b (areaPositions (x .area)) 0 ≤ 1_151_999
       go true = positions-few
       go false = omega arith
 

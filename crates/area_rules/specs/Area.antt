@@ -9,7 +9,7 @@ use Rattle.refusal.specs.Verdict.{refuseIf, firstOf}
 use Rattle.rows.specs.Lengths.{lengthsWrong}
 use Rattle.refusal.specs.declared.verdict.Verdict.{Verdict}
 use Rattle.build_options.specs.declared.area.Area.{Area}
-use Rattle.build_options.specs.Area.{positions, isDst}
+use Rattle.build_options.specs.Area.{areaPositions, isDst}
 
 -- the longest playtime of an area
 abbrev pub longestPlaytime : ℕ
@@ -17,7 +17,7 @@ longestPlaytime = 1_151_999
 
 -- how many lengths are to be given: one a position for DST, none for DSD
 abbrev pub lengthsWanted : Area → ℕ
-lengthsWanted a = cond (isDst (a .sound)) (positions a) 0
+lengthsWanted a = cond (isDst (a .sound)) (areaPositions a) 0
 
 -- 6: "Playtime exceeds 1,151,999". 7: "Channels aren't 1 to 6". 8: "Stereo, ThreeTwo, FivePointOne don't have 2, 5, 6 channels" (an unspecified layout names as many
 -- as there are, up to six)

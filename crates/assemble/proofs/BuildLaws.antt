@@ -7,8 +7,8 @@ use native.Mathlib.Omega.{arith}
 use borrow.Author.Tests.{ltb-false}
 use lib.Dec.{ltb}
 use lib.ListN.{length, drop}
-use Rattle.cursor.specs.Append.{overlay}
-use Rattle.cursor.proofs.AppendLaws.{overlay-room}
+use Rattle.chunk.specs.Append.{overlay}
+use Rattle.chunk.proofs.AppendLaws.{overlay-room}
 use Rattle.refusal.specs.declared.verdict.Verdict.{Verdict}
 use Rattle.refusal.specs.declared.verdict.Verdict.the-variants.{Accepted, Refused}
 use Rattle.refusal.proofs.VerdictLaws.{after, if-accepted}

@@ -42,7 +42,3 @@ pub record Outcome (x : Inputs) (v : Verdict) (h h′ t t′ : List ℕ) (r : An
 -- THE PROMISE OF A BUILD with buffers h and t for header and trailer, which are h′ and t′ in the end
 abbrev pub Builds : Inputs → List ℕ → List ℕ → List ℕ → List ℕ → Answer → Type 0
 Builds x h h′ t t′ r = Outcome x (buildVerdict x h t) h h′ t t′ r
-
--- what is left to do of accepted inputs
-abbrev pub LaysOut : Inputs → List ℕ → List ℕ → List ℕ → List ℕ → Answer → Type 0
-LaysOut x h h′ t t′ r = Outcome x (roomFault x h t) h h′ t t′ r

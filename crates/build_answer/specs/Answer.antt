@@ -5,11 +5,11 @@ use Rattle.build_answer.specs.declared.answer.Answer.{Answer}
 use Rattle.build_answer.specs.declared.answer.Answer.the-variants.{Built, Refused}
 
 -- 01's number of an answer; 0 stands for built
-abbrev pub numberOf : Answer → ℕ
-numberOf (Built header sound trailer) = 0
-numberOf (Refused number detail) = number
+abbrev pub buildNumber : Answer → ℕ
+buildNumber (Built header sound trailer) = 0
+buildNumber (Refused number detail) = number
 
 -- the values that go with it: the lengths of header, sound and trailer, or the detail
-abbrev pub valuesOf : Answer → List ℕ
-valuesOf (Built header sound trailer) = header ∷ sound ∷ trailer ∷ []
-valuesOf (Refused number detail) = detail ∷ 0 ∷ 0 ∷ []
+abbrev pub buildValues : Answer → List ℕ
+buildValues (Built header sound trailer) = header ∷ sound ∷ trailer ∷ []
+buildValues (Refused number detail) = detail ∷ 0 ∷ 0 ∷ []

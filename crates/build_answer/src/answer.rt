@@ -1,6 +1,6 @@
 // The answer of a build.
 ghost use mathlib.Core.Path.{_≡_};
-ghost use Rattle.build_answer.specs.Answer.{numberOf, valuesOf};
+ghost use Rattle.build_answer.specs.Answer.{buildNumber, buildValues};
 
 // What a build answers.
 pub enum Answer {
@@ -18,7 +18,7 @@ pub enum Answer {
 impl Answer {
     // Document 01's number, 0 where nothing is refused.
     pub fn number(self) -> u8
-        ensures { λ r. ⌜ r ≡ numberOf self ⌝ }
+        ensures { λ r. ⌜ r ≡ buildNumber self ⌝ }
     {
         match self {
             Answer::Built {
@@ -36,7 +36,7 @@ impl Answer {
 
     // The lengths of header, sound and trailer, or the detail of a refusal and zeros.
     pub fn values(self) -> [u64; 3]
-        ensures { λ r. ⌜ r ≡ valuesOf self ⌝ }
+        ensures { λ r. ⌜ r ≡ buildValues self ⌝ }
     {
         match self {
             Answer::Built {

@@ -8,8 +8,8 @@ use Rattle.prop_fields.specs.declared.layout.Layout.{Layout}
 use Rattle.prop_fields.specs.declared.layout.Layout.the-variants.{Stereo, ThreeTwo, FivePointOne, Unspecified}
 
 -- the positions of the range, none if it is turned round
-abbrev pub positions : Area → ℕ
-positions a = a .end - a .first
+abbrev pub areaPositions : Area → ℕ
+areaPositions a = a .end - a .first
 
 abbrev pub isDst : Sound → Bool
 isDst Dsd = false

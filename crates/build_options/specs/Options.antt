@@ -66,14 +66,14 @@ isOn On unset = true
 isOn Off unset = false
 
 -- a start that is missing becomes 0
-abbrev pub startOf : Start → Start
-startOf start = Given (startFrame start)
+abbrev pub startOrZero : Start → Start
+startOrZero start = Given (startFrame start)
 
 -- what holds in the end
 unfoldable pub effective : Options → Settings
 effective o =
     cond (o .«edited_master»)
-    (record { start = startOf (o .«absolute_start»); info = true; «artist_title» = isOn (o .«artist_title») true; «source_track» = 0 })
+    (record { start = startOrZero (o .«absolute_start»); info = true; «artist_title» = isOn (o .«artist_title») true; «source_track» = 0 })
     (record {
       start = o .«absolute_start»;
       info = o .«edited_master_info»;
@@ -86,12 +86,12 @@ abbrev pub replaced : Replacement → TextRule
 replaced Nothing = Remove
 replaced (Byte b) = Replace b
 
-abbrev pub ruleOf : Bool → Replacement → TextRule
-ruleOf d2 replacement = cond d2 D2 (replaced replacement)
+abbrev pub textRule : Bool → Replacement → TextRule
+textRule d2 replacement = cond d2 D2 (replaced replacement)
 
 abbrev pub textOptions : Options → TextOptions
 textOptions o = record {
-  rule = ruleOf (o .d2) (o .«text_replacement»);
+  rule = textRule (o .d2) (o .«text_replacement»);
   «empty_text» = o .«empty_text»;
   «text_pad_counted» = o .«text_pad_counted»;
 }
@@ -129,9 +129,9 @@ infoOf area o s = record {
 }
 
 -- the extent of a text; of one that is missing, an empty one
-abbrev pub extentOf : Text → Extent
-extentOf text.Absent = record { start = 0; length = 0 }
-extentOf (text.Given e) = e
+abbrev pub textExtent : Text → Extent
+textExtent text.Absent = record { start = 0; length = 0 }
+textExtent (text.Given e) = e
 
 -- extents as rows of two words
 abbrev pub idRow : Extent → List ℕ
@@ -139,12 +139,12 @@ idRow e = e .start ∷ e .length ∷ []
 
 abbrev pub tagRows : ArtistTitle → ArtistTitle → List ℕ
 tagRows album track =
-    extentOf (album .artist) .start
-    ∷ extentOf (album .artist) .length
-    ∷ extentOf (album .title) .start
-    ∷ extentOf (album .title) .length
-    ∷ extentOf (track .artist) .start
-    ∷ extentOf (track .artist) .length
-    ∷ extentOf (track .title) .start
-    ∷ extentOf (track .title) .length
+    textExtent (album .artist) .start
+    ∷ textExtent (album .artist) .length
+    ∷ textExtent (album .title) .start
+    ∷ textExtent (album .title) .length
+    ∷ textExtent (track .artist) .start
+    ∷ textExtent (track .artist) .length
+    ∷ textExtent (track .title) .start
+    ∷ textExtent (track .title) .length
     ∷ []

@@ -1,6 +1,6 @@
 // The area that is written, and its range.
 ghost use mathlib.Core.Path.{_≡_};
-ghost use Rattle.build_options.specs.Area.{positions, isDst, unspecified};
+ghost use Rattle.build_options.specs.Area.{areaPositions, isDst, unspecified};
 use prop_fields::compression::Sound;
 use prop_fields::layout::Layout;
 
@@ -16,7 +16,7 @@ pub struct Area {
 impl Area {
     // The positions of the range, none if it is turned round.
     pub fn positions(self) -> u32
-        ensures { λ r. ⌜ r ≡ positions self ⌝ }
+        ensures { λ r. ⌜ r ≡ areaPositions self ⌝ }
     {
         if self.end < self.first {
             return 0;

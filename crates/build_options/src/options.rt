@@ -1,6 +1,6 @@
 // The options of a build, their defaults, and what an edited master changes of them.
 ghost use mathlib.Core.Path.{_≡_};
-ghost use Rattle.build_options.specs.Options.{idText, extentOf, defaults, effective, startOf, isOn, ruleOf, textOptions, infoOf, programOptions, tagRows, idRow};
+ghost use Rattle.build_options.specs.Options.{idText, textExtent, defaults, effective, startOrZero, isOn, textRule, textOptions, infoOf, programOptions, tagRows, idRow};
 use crate::area::Area;
 use diin_texts::diin_text::Text;
 use dst_index::index::DstIndexOffset;
@@ -130,7 +130,7 @@ fn is_on(switch: Switch, unset: bool) -> bool
 
 // A start that is missing becomes 0.
 fn start_of(start: Start) -> Start
-    ensures { λ r. ⌜ r ≡ startOf start ⌝ }
+    ensures { λ r. ⌜ r ≡ startOrZero start ⌝ }
 {
     Start::Given(start.frame())
 }
@@ -160,7 +160,7 @@ pub fn effective(o: Options) -> Settings
 
 // How values become text bytes. Under D2 the replacement is idle.
 fn rule_of(d2: bool, replacement: Replacement) -> TextRule
-    ensures { λ r. ⌜ r ≡ ruleOf d2 replacement ⌝ }
+    ensures { λ r. ⌜ r ≡ textRule d2 replacement ⌝ }
 {
     if d2 {
         return TextRule::D2;
@@ -240,7 +240,7 @@ fn id_text(written: bool, id: Extent) -> Text
 
 // The extent of a text; of one that is missing, an empty one.
 fn extent_of(text: Text) -> Extent
-    ensures { λ r. ⌜ r ≡ extentOf text ⌝ }
+    ensures { λ r. ⌜ r ≡ textExtent text ⌝ }
 {
     match text {
         Text::Absent => {

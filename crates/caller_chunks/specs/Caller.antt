@@ -2,7 +2,7 @@
 use mathlib.Core.List.{List}
 use Prim.Native.Nat.{ℕ}
 use lib.ListN.{getD}
-use Rattle.cursor.specs.Number.{be}
+use Rattle.chunk.specs.Number.{be}
 use Rattle.chunk.specs.Rows.{rows}
 use Rattle.tree.specs.Tree.{Chunks, stop, leaf, each}
 use Rattle.texts.specs.Extent.{part}

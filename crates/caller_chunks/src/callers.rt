@@ -1,12 +1,10 @@
 // The caller's chunks: rows of a name and the extent of the data in the byte pool.
 ghost use mathlib.Core.Path.{_≡_};
 ghost use lib.ListN.{length};
-ghost use Rattle.cursor.specs.Append.{Appended};
+ghost use Rattle.chunk.specs.Append.{Appended};
 ghost use Rattle.tree.specs.Tree.{bytes};
 ghost use Rattle.caller_chunks.specs.Caller.{callerChunk, callerChunks};
-use chunk::chunks::chunk_head;
-use chunk::chunks::pad;
-use cursor::Cursor;
+use chunk::Cursor;
 use texts::extent::Extent;
 
 // Words a row.
@@ -25,9 +23,9 @@ fn caller_chunk(c: Cursor, out: &mut [u8], raw: &[u8], row: &[u32]) -> Cursor
     let first = data.first(raw.len());
     let end = data.end(raw.len());
     let size = (end - first) as u64;
-    let c = chunk_head(c, out, name, size);
+    let c = c.chunk_head(out, name, size);
     let c = c.bytes(out, &raw[first..end]);
-    pad(c, out, size)
+    c.pad(out, size)
 }
 
 // The chunks of all whole rows.

@@ -41,7 +41,7 @@ fn change(
 }
 
 // Changes, with a comma between them.
-pub fn changes(
+pub(crate) fn changes(
     table: &[u8],
     text: &[u8],
     words: &mut [u32],
@@ -61,7 +61,7 @@ pub fn changes(
 }
 
 // The words of a list as bytes. The answer is how many.
-pub fn bytes(raw: &mut [u8], words: &[u32]) -> usize {
+pub(crate) fn bytes(raw: &mut [u8], words: &[u32]) -> usize {
     let mut i = 0;
     while i < words.len() {
         if i >= raw.len() {
@@ -74,7 +74,7 @@ pub fn bytes(raw: &mut [u8], words: &[u32]) -> usize {
 }
 
 // A list, by its number: pool, raw, tracks, markers, comments, callers, lengths.
-pub fn list<'a>(rows: &'a [u32], spans: [usize; 14], k: usize) -> &'a [u32] {
+pub(crate) fn list<'a>(rows: &'a [u32], spans: [usize; 14], k: usize) -> &'a [u32] {
     if k >= LISTS {
         return &rows[..0];
     }
@@ -89,7 +89,7 @@ pub fn list<'a>(rows: &'a [u32], spans: [usize; 14], k: usize) -> &'a [u32] {
     &rows[from..to]
 }
 
-pub fn verdict(words: &[u32], raw: &[u8], rows: &[u32], spans: [usize; 14]) -> Verdict {
+pub(crate) fn verdict(words: &[u32], raw: &[u8], rows: &[u32], spans: [usize; 14]) -> Verdict {
     words::verdict::verdict(
         words,
         list(rows, spans, 0),

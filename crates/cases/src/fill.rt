@@ -61,7 +61,7 @@ fn put(list: &mut [u32], text: &[u8], pen: Pen) -> Pen {
 }
 
 // The numbers of a text, from place `from` on. The answer is where they end.
-pub fn fill(list: &mut [u32], from: usize, text: &[u8]) -> usize {
+pub(crate) fn fill(list: &mut [u32], from: usize, text: &[u8]) -> usize {
     let mut pen = Pen {
         at: from,
         row: from,

@@ -20,7 +20,7 @@ fn on_line(line: &[u8], name: &[u8]) -> usize {
     number(part(line, 2, end)) as usize
 }
 
-pub fn place(table: &[u8], name: &[u8]) -> usize {
+pub(crate) fn place(table: &[u8], name: &[u8]) -> usize {
     let mut at = 0;
     while at < table.len() {
         let end = find(table, at, b'\n');

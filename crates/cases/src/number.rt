@@ -33,7 +33,7 @@ fn digits(text: &[u8], base: u16) -> u64 {
     n
 }
 
-pub fn number(text: &[u8]) -> u32 {
+pub(crate) fn number(text: &[u8]) -> u32 {
     let mut n = digits(text, 10);
     if byte(text, 0) == b'"' {
         n = digits(part(text, 1, 5), 256);

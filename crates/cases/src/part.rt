@@ -2,7 +2,7 @@
 ghost use Prim.Native.Nat.{_≤_};
 
 // The byte at i, 0 past the end.
-pub fn byte(text: &[u8], i: usize) -> u8 {
+pub(crate) fn byte(text: &[u8], i: usize) -> u8 {
     if i < text.len() {
         return text[i];
     }
@@ -10,7 +10,7 @@ pub fn byte(text: &[u8], i: usize) -> u8 {
 }
 
 // Where `b` first stands, from `from` on, or the end.
-pub fn find(text: &[u8], from: usize, b: u8) -> usize
+pub(crate) fn find(text: &[u8], from: usize, b: u8) -> usize
     ensures { λ r. ⌜ from ≤ r ⌝ }
 {
     let mut i = from;
@@ -24,7 +24,7 @@ pub fn find(text: &[u8], from: usize, b: u8) -> usize
 }
 
 // The bytes from `from` to `to`, none where there is no such part.
-pub fn part<'a>(text: &'a [u8], from: usize, to: usize) -> &'a [u8] {
+pub(crate) fn part<'a>(text: &'a [u8], from: usize, to: usize) -> &'a [u8] {
     if to > text.len() {
         return &text[..0];
     }

@@ -1,7 +1,7 @@
 use libc::STDOUT_FILENO;
 use refusal::verdict::Verdict;
 
-pub fn text(s: &[u8]) {
+pub(crate) fn text(s: &[u8]) {
     io::write_all(STDOUT_FILENO, s);
 }
 
@@ -10,7 +10,7 @@ fn number(n: u64) {
 }
 
 // A line: what is tried, and the number and the detail that are answered.
-pub fn line(label: &[u8], v: Verdict) {
+pub(crate) fn line(label: &[u8], v: Verdict) {
     text(label);
     text(b": ");
     number(v.number() as u64);

@@ -81,7 +81,7 @@ fn lines(table: &[u8], rows: &mut [u32], raw: &mut [u8]) {
     }
 }
 
-pub fn all(table: &[u8]) {
+pub(crate) fn all(table: &[u8]) {
     let mut rows = [0u32; ROWS];
     let mut raw = [0u8; BYTES];
     lines(table, &mut rows, &mut raw);

@@ -28,7 +28,7 @@ use Rattle.rows.specs.declared.row.Row.the-variants.{Text, Caller, Track, Marke
 use Rattle.refusal.proofs.VerdictLaws.{or-accepted, after, if-accepted, neither, inside, none-so, none-refused}
 use Rattle.row_extents.proofs.RowFaultLaws.{RowsFit, rows-fit, not-not}
 use Rattle.comment_faults.proofs.CommentFaultLaws.{few-written}
-use Rattle.build_options.specs.Area.{positions, isDst}
+use Rattle.build_options.specs.Area.{areaPositions, isDst}
 use Rattle.area_rules.specs.Area.{lengthsWanted, longestPlaytime, areaFault, lengthsFault, rangeFault, areaFaults}
 use Rattle.build_options.specs.Options.{effective, textOptions, infoOf, tagRows, idRow}
 use Rattle.rules.specs.Limits.{longestText, longestCallerChunk, mostTracks, mostCallerChunks, mostMarkers, anyNumber, anyTooLarge, anyOutside, limitFaults}
@@ -280,7 +280,7 @@ module _ (x : Inputs) (ok : verdict x ≡ Accepted) where
   pub property-once : (rank : ℕ) → rank < 5 → times (map propertyRank (x .propertyOrder)) rank ≡ 1
   property-once = once (map propertyRank (x .propertyOrder)) 5 (property-tests .0)
 
-  pub start-inside : isGiven (effective (x .options) .start) ≡ true → startFrame (effective (x .options) .start) + positions (x .area) ≤ lastFrameOfDay
+  pub start-inside : isGiven (effective (x .options) .start) ≡ true → startFrame (effective (x .options) .start) + areaPositions (x .area) ≤ lastFrameOfDay
   unfolding startFault
   start-inside given = ltb-false lastFrameOfDay _ (wanted given (if-accepted _ 29 0 (property-tests .1)))
 

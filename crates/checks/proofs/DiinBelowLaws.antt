@@ -24,13 +24,13 @@ use Rattle.refusal.specs.declared.verdict.Verdict.the-variants.{Accepted}
 use Rattle.rows.specs.declared.row.Row.the-variants as row
 use Rattle.row_extents.proofs.RowFaultLaws.{RowsFit}
 use Rattle.texts.specs.declared.extent.Extent.{Extent}
-use Rattle.build_options.specs.Options.{idText, extentOf, effective, infoOf}
+use Rattle.build_options.specs.Options.{idText, textExtent, effective, infoOf}
 use Rattle.rules.specs.Limits.{longestText}
 use Rattle.build_options.specs.Inputs.{Inputs}
 use Rattle.checks.specs.InputVerdict.{verdict}
 use Rattle.checks.proofs.AcceptedLaws.{tags-fit, emid-fits, tracks-fit, markers-fit}
 
-given-short : (t : Text) → extentOf t .length ≤ longestText → ShortGiven longestText t
+given-short : (t : Text) → textExtent t .length ≤ longestText → ShortGiven longestText t
 given-short Absent h = tt
 given-short (Given e) h = h
 

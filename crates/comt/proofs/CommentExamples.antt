@@ -3,7 +3,7 @@ use mathlib.Core.Path.{_≡_, refl}
 use mathlib.Core.Bool.{false}
 use mathlib.Core.List.{List, [], _∷_, _++_, flatMap}
 use Prim.Native.Nat.{ℕ}
-use Rattle.cursor.specs.Number.{be, num}
+use Rattle.chunk.specs.Number.{be, num}
 use Rattle.chunk_names.specs.Name.{ascii, same}
 use Rattle.chunk.specs.Chunk.{pad, chunk, counts}
 use Rattle.tree.specs.Value.{comments, value}

@@ -10,12 +10,12 @@ use native.Mathlib.Omega.{arith}
 use borrow.Author.Tests.{lt-leb}
 use lib.ListN.{length, take, drop, getD, length-take, length-drop, length-append}
 use lib.Seq.{take-all, drop-drop, getD-take, getD-drop}
-use Rattle.cursor.specs.Number.{be}
+use Rattle.chunk.specs.Number.{be}
 use Rattle.chunk_names.specs.Name.{ascii}
 use Rattle.chunk.specs.Chunk.{chunk}
 use Rattle.chunk.specs.Rows.{firstRows, rows}
 use Rattle.tree.specs.Tree.{stop, leaf, bytes}
-use Rattle.cursor.proofs.NumberLaws.{length-be}
+use Rattle.chunk.proofs.NumberLaws.{length-be}
 use Rattle.chunk.proofs.ChunkLaws.{length-pad, length-counts}
 use Rattle.chunk.proofs.ListLaws.{flatMap-take, flatMap-bound}
 use Rattle.chunk.proofs.RowsLaws.{length-rows, get-rows}

@@ -6,11 +6,11 @@ use Prim.Native.Nat.{ℕ, _+_, _%_, _^_, _<_}
 use native.Mathlib.Omega.{arith}
 use lib.ListN.{length, getD, length-append}
 use lib.Seq.{take-at, drop-at}
-use Rattle.cursor.specs.Number.{be}
+use Rattle.chunk.specs.Number.{be}
 use Rattle.chunk_names.specs.Name.{ascii, same}
 use Rattle.chunk.specs.Chunk.{pad, counts}
 use Rattle.tree.specs.Value.{comments, value}
-use Rattle.cursor.proofs.NumberLaws.{length-be, num-be}
+use Rattle.chunk.proofs.NumberLaws.{length-be, num-be}
 use Rattle.chunk.proofs.ChunkLaws.{length-pad}
 use Rattle.tree.proofs.ValueLaws.{count-read, counts-long}
 use Rattle.comt.specs.Comment.{Written, writtenComments, commentBytes, comtData, hasComt, comtValue}

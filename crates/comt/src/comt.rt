@@ -3,15 +3,13 @@ ghost use mathlib.Core.Path.{_≡_};
 ghost use mathlib.Core.List.{_++_, flatMap};
 ghost use Prim.Native.Nat.{_<_, _+_, _^_};
 ghost use lib.ListN.{length};
-ghost use Rattle.cursor.specs.Append.{Appended};
-ghost use Rattle.cursor.specs.Number.{be};
+ghost use Rattle.chunk.specs.Append.{Appended};
+ghost use Rattle.chunk.specs.Number.{be};
 ghost use Rattle.chunk.specs.Chunk.{pad};
 ghost use Rattle.texts.specs.Extent.{part};
 ghost use Rattle.texts.specs.Text.{textBytes};
 ghost use Rattle.comt.specs.Comment.{commentOf, referenceOf, commentHead, writtenComment, writtenComments, commentBytes, comt};
-use chunk::chunks::chunk_head;
-use chunk::chunks::pad;
-use cursor::Cursor;
+use chunk::Cursor;
 use texts::extent::Extent;
 use texts::text::TextOptions;
 use texts::text::TextRule;
@@ -100,10 +98,10 @@ pub fn comt(c: Cursor, out: &mut [u8], pool: &[u32], rows: &[u32], options: Text
         return c;
     }
     let size = measured.end.at as u64;
-    let c = chunk_head(c, out, *b"COMT", size);
+    let c = c.chunk_head(out, *b"COMT", size);
     let written = comt_data(c, out, count as u16, pool, rows, options);
     let c = written.end;
-    pad(c, out, size)
+    c.pad(out, size)
 }
 
 // The data: the count, and the comments.
@@ -161,7 +159,7 @@ fn comment_bytes(
     let head = comment_head(c);
     let p = p.bytes(out, &head);
     let p = texts::text::counted_text(p, out, count, rule, pool, text);
-    pad(p, out, count as u64)
+    p.pad(out, count as u64)
 }
 
 impl Comments {

@@ -6,7 +6,7 @@ use mathlib.Core.Option.{none}
 use Prim.Native.Nat.{ℕ, _+_, _%_, _≤_}
 use native.Mathlib.Omega.{arith}
 use lib.ListN.{length, length-append}
-use Rattle.cursor.specs.Number.{be}
+use Rattle.chunk.specs.Number.{be}
 use Rattle.chunk_names.specs.Name.{Name}
 use Rattle.chunk.specs.Chunk.{pad, chunk, counts}
 use Rattle.tree.specs.Tree.{stop, leaf, bytes}
@@ -15,7 +15,7 @@ use Rattle.chunk.proofs.ChunkLaws.{length-pad, pad-even, pad-parity, length-cou
 use Rattle.tree.proofs.TreeLaws.{bytes-stop, bytes-leaf, shaped-if}
 use Rattle.texts.specs.Extent.{part}
 use Rattle.texts.specs.Text.{textBytes, textPad, isWritten}
-use Rattle.diin_texts.specs.DiinText.{diinTextData, givenText, diinText, givenTextChunk, diinTextChunk}
+use Rattle.diin_texts.specs.DiinText.{diinTextData, givenTextBytes, diinText, givenTextChunk, diinTextChunk}
 use Rattle.diin_texts.specs.declared.diin_text.Text.{Text}
 use Rattle.diin_texts.specs.declared.diin_text.Text.the-variants.{Absent, Given}
 use Rattle.texts.specs.declared.text.TextOptions.{TextOptions}
@@ -49,8 +49,8 @@ diin-text-bytes name text o = go (o .«text_pad_counted»)
     go false = rw (length-content text false, pad-parity (4 + length text + 0) (length text) (omega arith)) (simp (append-assoc, append-nil))
 
 -- DIAR and DITI as chunks of a tree have the same bytes
-given-text-tree : (name : Name) (text : List ℕ) (o : TextOptions) → bytes (givenTextChunk name text o) ≡ givenText name text o
-unfolding givenTextChunk givenText
+given-text-tree : (name : Name) (text : List ℕ) (o : TextOptions) → bytes (givenTextChunk name text o) ≡ givenTextBytes name text o
+unfolding givenTextChunk givenTextBytes
 given-text-tree name text o = go (isWritten o (length text))
   where
     go : (b : Bool) → bytes (cond b (leaf name (diinTextData text o) stop) stop) ≡ cond b (chunk name (diinTextData text o)) []

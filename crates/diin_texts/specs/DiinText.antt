@@ -17,13 +17,13 @@ unfoldable pub diinTextData : List ℕ → TextOptions → List ℕ
 diinTextData text o = counts 4 [] text ++ textPad o (length text)
 
 -- DIAR or DITI of a converted text: nothing if it is empty, unless empty text is on
-unfoldable pub givenText : Name → List ℕ → TextOptions → List ℕ
-givenText name text o = cond (isWritten o (length text)) (chunk name (diinTextData text o)) []
+unfoldable pub givenTextBytes : Name → List ℕ → TextOptions → List ℕ
+givenTextBytes name text o = cond (isWritten o (length text)) (chunk name (diinTextData text o)) []
 
 -- DIAR or DITI: nothing if there is no text
 unfoldable pub diinText : Name → List ℕ → Text → TextOptions → List ℕ
 diinText name pool Absent o = []
-diinText name pool (Given text) o = givenText name (textBytes (o .rule) (part pool text)) o
+diinText name pool (Given text) o = givenTextBytes name (textBytes (o .rule) (part pool text)) o
 
 -- the same as chunks of a tree
 unfoldable pub givenTextChunk : Name → List ℕ → TextOptions → Chunks

@@ -1,13 +1,11 @@
 // The artist and the title of DIIN: the chunks DIAR and DITI.
 ghost use mathlib.Core.List.{_++_};
-ghost use Rattle.cursor.specs.Append.{Appended};
-ghost use Rattle.cursor.specs.Number.{be};
+ghost use Rattle.chunk.specs.Append.{Appended};
+ghost use Rattle.chunk.specs.Number.{be};
 ghost use Rattle.texts.specs.Extent.{part};
 ghost use Rattle.texts.specs.Text.{textBytes, textPad};
-ghost use Rattle.diin_texts.specs.DiinText.{diinText, givenText};
-use chunk::chunks::chunk_head;
-use chunk::chunks::pad;
-use cursor::Cursor;
+ghost use Rattle.diin_texts.specs.DiinText.{diinText, givenTextBytes};
+use chunk::Cursor;
 use texts::extent::Extent;
 use texts::text::TextOptions;
 
@@ -47,7 +45,7 @@ fn given_text(
     text: Extent,
     options: TextOptions,
 ) -> Cursor
-    ensures { λ r. ⌜ Appended (now (out .entry)) (c .at) (givenText id (textBytes (options .rule) (part (now (pool .entry)) text)) options) (now (out .exit)) (r .at) ⌝ }
+    ensures { λ r. ⌜ Appended (now (out .entry)) (c .at) (givenTextBytes id (textBytes (options .rule) (part (now (pool .entry)) text)) options) (now (out .exit)) (r .at) ⌝ }
 {
     let rule = options.rule;
     let count = texts::text::text_count(rule, pool, text);
@@ -58,9 +56,9 @@ fn given_text(
     let start = Cursor::new();
     let end = diin_text_data(start, &mut empty, count, pool, text, options);
     let size = end.at as u64;
-    let c = chunk_head(c, out, id, size);
+    let c = c.chunk_head(out, id, size);
     let c = diin_text_data(c, out, count, pool, text, options);
-    pad(c, out, size)
+    c.pad(out, size)
 }
 
 // The data: the count, the text, and its pad if that is counted.

@@ -15,10 +15,11 @@ use Rattle.sound_reads.specs.declared.place.Place.{Place}
 use Rattle.sound_reads.specs.declared.place.Positions.{Positions}
 use Rattle.dst.specs.Frame.{dsdSound}
 use Rattle.dst.specs.Start.{sum, start}
-use Rattle.sound_reads.specs.Place.{placeOf, Inside}
+use Rattle.sound_reads.specs.Place.{placeOf}
+use Rattle.sound_reads.specs.Steps.{Inside}
 use Rattle.window.specs.declared.window.Window.{Window}
 use Rattle.sound_reads.specs.declared.lent.Fill.the-variants.{Filled}
-use Rattle.sound_reads.specs.Positions.{positions, number, between}
+use Rattle.sound_reads.specs.Positions.{positionsFor, number, between}
 use Rattle.window.specs.Window.{Wrote}
 use Rattle.sound_reads.specs.Fill.{Filling}
 use Rattle.sound_reads.specs.Lent.{neededAt, contentsWith}
@@ -70,7 +71,7 @@ module _ (f n : ℕ) where
   -- bytes from a place in frame `first` on end in frame `last`
   touch : (first within count last : ℕ) → first ≤ last → last < n → within < f → 0 < count → f * last < f * first + within + count
       → (f * first + within + count ≤ f * suc last) ⊎ (suc last ≡ n)
-      → record { first = first; end = suc last } ≡ positions (replicate n f) (start (replicate n f) first + within) count
+      → record { first = first; end = suc last } ≡ positionsFor (replicate n f) (start (replicate n f) first + within) count
   touch first within count last o k w c b u =
       let l = length-replicate n f in
       let s = frame-start first (omega arith) in
@@ -94,7 +95,7 @@ module _ (f n : ℕ) where
 
   module _ (first within count : ℕ) (known : first < n) (inside : within < f) (wanted : 0 < count) where
     -- they end in the same frame
-    pub ends-here : count ≤ f - within → record { first = first; end = first + 1 } ≡ positions (replicate n f) (start (replicate n f) first + within) count
+    pub ends-here : count ≤ f - within → record { first = first; end = first + 1 } ≡ positionsFor (replicate n f) (start (replicate n f) first + within) count
     ends-here h = let m = mul-suc f first in rw add-one (touch first within count first (omega arith) known inside wanted (omega arith) (inl (omega arith)))
 
     module _ (more : f - within < count) where
@@ -123,7 +124,7 @@ module _ (f n : ℕ) where
 
       -- they end in one of the frames after it
       pub ends-later : (count - (f - within) - 1) / f + 1 < n - first - 1
-          → record { first = first; end = first + 1 + ((count - (f - within) - 1) / f + 1) } ≡ positions (replicate n f) (start (replicate n f) first + within) count
+          → record { first = first; end = first + 1 + ((count - (f - within) - 1) / f + 1) } ≡ positionsFor (replicate n f) (start (replicate n f) first + within) count
       unfolding later
       ends-later l =
           let e : first + 1 + ((count - (f - within) - 1) / f + 1) ≡ suc (suc (first + later)) = omega arith in
@@ -131,7 +132,7 @@ module _ (f n : ℕ) where
 
       -- they end in the last frame, or the sound ends before
       pub ends-last : n - first - 1 ≤ (count - (f - within) - 1) / f + 1
-          → record { first = first; end = n } ≡ positions (replicate n f) (start (replicate n f) first + within) count
+          → record { first = first; end = n } ≡ positionsFor (replicate n f) (start (replicate n f) first + within) count
       unfolding later
       ends-last l =
           let e : suc (n - 1) ≡ n = omega arith in

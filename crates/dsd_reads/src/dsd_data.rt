@@ -4,8 +4,9 @@ ghost use Prim.Native.Nat.{_*_, _^_, _<_};
 ghost use lib.Dec.{eqb};
 ghost use lib.ListN.{length, replicate};
 ghost use Rattle.dst.specs.Frame.{frameBytes, dsdSound};
-ghost use Rattle.sound_reads.specs.Place.{placeOf, byteAt, Inside};
-ghost use Rattle.sound_reads.specs.Positions.{positions, number};
+ghost use Rattle.sound_reads.specs.Place.{placeOf};
+ghost use Rattle.sound_reads.specs.Steps.{byteAt, Inside};
+ghost use Rattle.sound_reads.specs.Positions.{positionsFor, number};
 ghost use Rattle.sound_reads.specs.Fill.{Filling};
 ghost use Rattle.sound_reads.specs.Lent.{neededAt, contentsWith};
 use dst::frame::frame_bytes;
@@ -37,7 +38,7 @@ fn locate(frame: u64, n: u64, place: u64) -> Place
 // The positions that so many bytes from a place on touch.
 fn touched(frame: u64, n: u64, place: Place, count: u64) -> Positions
     requires { ⌜ Inside (replicate n frame) place ⌝ }
-    ensures { λ r. ⌜ r ≡ positions (replicate n frame) (byteAt (replicate n frame) place) count ⌝ }
+    ensures { λ r. ⌜ r ≡ positionsFor (replicate n frame) (byteAt (replicate n frame) place) count ⌝ }
 {
     let first = place.position;
     if (count == 0) | (n <= first as u64) {
@@ -67,7 +68,7 @@ fn touched(frame: u64, n: u64, place: Place, count: u64) -> Positions
 // The positions that a read of so many bytes from a place of the sound on needs: the first that it touches and one past the last, 0 and 0 for
 // none.
 pub fn positions(channels: u8, n: u32, from: u64, count: u64) -> Positions
-    ensures { λ r. ⌜ r ≡ positions (replicate n (frameBytes channels)) from count ⌝ }
+    ensures { λ r. ⌜ r ≡ positionsFor (replicate n (frameBytes channels)) from count ⌝ }
 {
     let frame = frame_bytes(channels) as u64;
     let place = locate(frame, n as u64, from);

@@ -23,18 +23,18 @@ use Rattle.build_answer.specs.declared.answer.Answer.{Answer}
 use Rattle.dsdiff.specs.declared.marker.Marker.{Marker}
 use Rattle.assemble.specs.Build.{Builds}
 use Rattle.dsdiff.specs.Marker.{rowOf, rowsOf, lookedAt}
-use Rattle.dsdiff.specs.Table.{rowAt, stored, filled}
+use Rattle.dsdiff.specs.Table.{withRow, stored, filled}
 
 -- what `getD` says of a list of markers past its end
 abbrev pub noMarker : Marker
 noMarker = record { frame = 0; kind = Index; flags = 0; text = record { start = 0; length = 0 } }
 
-rowAt-sets : (t : List ℕ) (at : ℕ) (m : Marker) → rowAt t at (rowOf m) ≡ sets t at (rowOf m)
-rowAt-sets t at m = simp unary-clauses
+withRow-sets : (t : List ℕ) (at : ℕ) (m : Marker) → withRow t at (rowOf m) ≡ sets t at (rowOf m)
+withRow-sets t at m = simp unary-clauses
 
 -- where the table has a row i, that row is m's, and all else is as it was
 stored-row : (t : List ℕ) (i : ℕ) (m : Marker) → i < 65_535 → i * 4 + 4 ≤ length t → stored t i m ≡ paste t (i * 4) (rowOf m) 4
-stored-row t i m in-table h = rw (lt-ltb i 65_535 in-table) (rowAt-sets t (i * 4) m ∙ sets-eq (rowOf m) t (i * 4) h)
+stored-row t i m in-table h = rw (lt-ltb i 65_535 in-table) (withRow-sets t (i * 4) m ∙ sets-eq (rowOf m) t (i * 4) h)
 
 -- the rows before i, the markers' rows, and what stands behind them
 filled-all : (ms : List Marker) (t : List ℕ) (i : ℕ) → i + length ms ≤ 65_535 → (i + length ms) * 4 ≤ length t

@@ -5,7 +5,7 @@ use Prim.Native.Nat.{ℕ, _-_, _*_, _<_}
 use native.Mathlib.Omega.{arith}
 use lib.ListN.{length, take, drop, getD}
 use lib.Seq.{take-at}
-use Rattle.cursor.specs.Number.{num}
+use Rattle.chunk.specs.Number.{num}
 use Rattle.chunk_names.specs.Name.{ascii}
 use Rattle.chunk.specs.Chunk.{chunk}
 use Rattle.tree.specs.Tree.{bytes}

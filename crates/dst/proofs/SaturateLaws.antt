@@ -2,7 +2,7 @@
 use mathlib.Core.Path.{_≡_}
 use Prim.Native.Nat.{ℕ, _+_, _^_, _<_}
 use native.Mathlib.Omega.{arith}
-use Rattle.cursor.specs.Append.{moved}
+use Rattle.chunk.specs.Append.{moved}
 
 pub moved-moved : (a m n : ℕ) → moved (moved a m) n ≡ moved a (m + n)
 moved-moved a m n = omega arith

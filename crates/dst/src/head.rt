@@ -1,9 +1,8 @@
 // The DST chunk up to its first frame.
-ghost use Rattle.cursor.specs.Append.{Appended};
+ghost use Rattle.chunk.specs.Append.{Appended};
 ghost use Rattle.dst.specs.Head.{frte, head};
 use crate::unit::data_size;
-use chunk::chunks::chunk_head;
-use cursor::Cursor;
+use chunk::Cursor;
 
 // Frames a second.
 const FRAME_RATE: u16 = 75;
@@ -12,7 +11,7 @@ const FRAME_RATE: u16 = 75;
 fn frte(c: Cursor, out: &mut [u8], frames: u32) -> Cursor
     ensures { λ r. ⌜ Appended (now (out .entry)) (c .at) (frte frames) (now (out .exit)) (r .at) ⌝ }
 {
-    let c1 = chunk_head(c, out, *b"FRTE", 6);
+    let c1 = c.chunk_head(out, *b"FRTE", 6);
     let c2 = c1.be32(out, frames);
     c2.be16(out, FRAME_RATE)
 }
@@ -22,6 +21,6 @@ pub fn head(c: Cursor, out: &mut [u8], crc: bool, lengths: &[u32]) -> Cursor
     ensures { λ r. ⌜ Appended (now (out .entry)) (c .at) (head crc (now (lengths .entry))) (now (out .exit)) (r .at) ⌝ }
 {
     let size = data_size(crc, lengths);
-    let c1 = chunk_head(c, out, *b"DST ", size);
+    let c1 = c.chunk_head(out, *b"DST ", size);
     frte(c1, out, (lengths.len() % 0x1_0000_0000) as u32)
 }

@@ -1,7 +1,7 @@
 // A frame's unit: its DSTF chunk and, with CRC on, its DSTC chunk. Sums of sizes stop at the largest u64, which says that they do not fit.
 ghost use mathlib.Core.Path.{_≡_};
 ghost use Prim.Native.Nat.{_-_, _^_, min};
-ghost use Rattle.cursor.specs.Append.{moved};
+ghost use Rattle.chunk.specs.Append.{moved};
 ghost use Rattle.dst.specs.Unit.{unitSize, sizes};
 ghost use Rattle.dst.specs.Start.{sum, start};
 ghost use Rattle.dst.specs.Head.{dataSize};

@@ -4,8 +4,8 @@ use mathlib.Core.Bool.{true, false}
 use mathlib.Core.List.{List, [], _∷_}
 use Prim.Native.Nat.{ℕ, _+_}
 use lib.ListN.{length}
-use Rattle.cursor.specs.Append.{moved}
-use Rattle.cursor.specs.Number.{be}
+use Rattle.chunk.specs.Append.{moved}
+use Rattle.chunk.specs.Number.{be}
 use Rattle.chunk.specs.Chunk.{pad, chunk, occupied}
 use Rattle.tree.specs.Tree.{bytes}
 use Rattle.checksum.specs.Crc.{bit, bits, byteOf, bytesOf, crcOf}

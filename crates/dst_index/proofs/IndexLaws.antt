@@ -7,13 +7,13 @@ use native.Mathlib.Nat.{not-suc-le-zero, le-of-suc-le-suc, zero-add}
 use native.Mathlib.Omega.{arith}
 use lib.ListN.{length, take, drop, getD, length-append, length-map}
 use lib.Seq.{take-at, drop-at, drop-nil, drop-drop, drop-cons}
-use Rattle.cursor.specs.Append.{Appended, moved}
-use Rattle.cursor.specs.Number.{be, num}
+use Rattle.chunk.specs.Append.{Appended, moved}
+use Rattle.chunk.specs.Number.{be, num}
 use Rattle.chunk_names.specs.Name.{ascii}
 use Rattle.chunk.specs.Chunk.{chunk}
 use Rattle.tree.specs.Tree.{stop, leaf, bytes}
-use Rattle.cursor.proofs.NumberLaws.{length-be, num-be}
-use Rattle.cursor.proofs.AppendLaws.{_then_, kept, overlay-out}
+use Rattle.chunk.proofs.NumberLaws.{length-be, num-be}
+use Rattle.chunk.proofs.AppendLaws.{_then_, kept, overlay-out}
 use Rattle.tree.proofs.TreeLaws.{bytes-leaf}
 use Rattle.checksum.specs.Crc.{crcOf}
 use Rattle.dst.specs.Frame.{Frame}

@@ -5,8 +5,8 @@ use mathlib.Core.Path.{_≡_}
 use mathlib.Core.Bool.{Bool}
 use mathlib.Core.List.{List, [], _∷_, _++_}
 use lib.ListN.{length, take, drop}
-use Rattle.cursor.specs.Append.{moved}
-use Rattle.cursor.specs.Number.{be}
+use Rattle.chunk.specs.Append.{moved}
+use Rattle.chunk.specs.Number.{be}
 use Rattle.chunk_names.specs.Name.{ascii}
 use Rattle.dst.specs.Unit.{unitSize}
 use Rattle.dst_index.specs.declared.index.DstIndexOffset.{DstIndexOffset}

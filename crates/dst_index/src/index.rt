@@ -1,10 +1,9 @@
 // The index of the frames: the chunk DSTI.
 ghost use mathlib.Core.Path.{_≡_};
 ghost use Prim.Native.Nat.{_*_};
-ghost use Rattle.cursor.specs.Append.{Appended, moved};
+ghost use Rattle.chunk.specs.Append.{Appended, moved};
 ghost use Rattle.dst_index.specs.Index.{shiftOf, entry, index, dsti};
-use chunk::chunks::chunk_head;
-use cursor::Cursor;
+use chunk::Cursor;
 use dst::unit::plus;
 use dst::unit::unit_size;
 
@@ -79,7 +78,7 @@ pub fn dsti(
     ensures { λ r. ⌜ Appended (now (out .entry)) (c .at) (dsti crc (moved base (shiftOf offset)) (now (lengths .entry))) (now (out .exit)) (r .at) ⌝ }
 {
     let size = index_size(lengths.len());
-    let c = chunk_head(c, out, *b"DSTI", size);
+    let c = c.chunk_head(out, *b"DSTI", size);
     let at = c.at;
     if out.len() <= at {
         return c.skip(size as usize); // nothing is written, only measured

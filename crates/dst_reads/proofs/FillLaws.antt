@@ -10,10 +10,10 @@ use native.Mathlib.Omega.{arith}
 use borrow.Rule.Slice.PartMut.{midOf}
 use lib.Dec.{ltb}
 use lib.ListN.{length, take, drop, getD, length-map, take-append-drop}
-use Rattle.cursor.specs.Number.{be}
+use Rattle.chunk.specs.Number.{be}
 use Rattle.chunk_names.specs.Name.{ascii}
 use Rattle.chunk.specs.Chunk.{chunk, occupied}
-use Rattle.cursor.proofs.NumberLaws.{length-be}
+use Rattle.chunk.proofs.NumberLaws.{length-be}
 use Rattle.chunk.proofs.ChunkLaws.{length-chunk}
 use Rattle.chunk.proofs.ListLaws.{flatMap-append, flatMap-one}
 use Rattle.window.specs.declared.window.Window.{Window}
@@ -23,7 +23,7 @@ use Rattle.sound_reads.specs.declared.lent.Fill.the-variants.{Filled}
 use Rattle.dst.specs.Unit.{unitBytes, sound, unitSize, sizes}
 use Rattle.dst.specs.Start.{sum}
 use Rattle.sound_reads.specs.Place.{placeOf}
-use Rattle.sound_reads.specs.Positions.{positions, between}
+use Rattle.sound_reads.specs.Positions.{positionsFor, between}
 use Rattle.window.specs.Window.{Wrote}
 use Rattle.sound_reads.specs.Fill.{Filling}
 use Rattle.sound_reads.specs.Lent.{neededAt, isLent, lentFrames, framesWith}
@@ -80,8 +80,8 @@ module _ (crc : Bool) (ls : List ℕ) where
   pub units-touched : (from count : ℕ) → Nothing (sizes crc ls) from count ⊎ Some (sizes crc ls) from count
   units-touched from count = touching (sizes crc ls) from count units-sized
 
-  pub needed-known : (from count : ℕ) → (positions (sizes crc ls) from count .first ≤ positions (sizes crc ls) from count .end)
-      × (positions (sizes crc ls) from count .end ≤ length ls)
+  pub needed-known : (from count : ℕ) → (positionsFor (sizes crc ls) from count .first ≤ positionsFor (sizes crc ls) from count .end)
+      × (positionsFor (sizes crc ls) from count .end ≤ length ls)
   needed-known from count =
       let k = positions-known (sizes crc ls) from count (units-touched from count) in
       let n = length-map ls (unitSize crc) in

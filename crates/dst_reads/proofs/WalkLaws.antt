@@ -13,8 +13,9 @@ use Rattle.sound_reads.specs.declared.place.Place.{Place}
 use Rattle.chunk.specs.Chunk.{occupied}
 use Rattle.dst.specs.Unit.{unitSize}
 use Rattle.dst.specs.Start.{start}
-use Rattle.sound_reads.specs.Place.{placeOf, Inside}
-use Rattle.sound_reads.specs.Positions.{positions}
+use Rattle.sound_reads.specs.Place.{placeOf}
+use Rattle.sound_reads.specs.Steps.{Inside}
+use Rattle.sound_reads.specs.Positions.{positionsFor}
 use Rattle.window.proofs.TestLaws.{lt-or-le}
 use Rattle.dst.proofs.StartLaws.{start-zero, start-suc, size-at}
 use Rattle.sound_reads.proofs.PlaceLaws.{place-is, place-end}
@@ -105,7 +106,7 @@ module _ (f : ℕ → ℕ) (ls : List ℕ) where
       last-touched : (last : ℕ) → first ≤ last → last < length ls → start (map f ls) last < start (map f ls) first + within₀ + count
           → start (map f ls) last < start (map f ls) (suc last)
           → (start (map f ls) first + within₀ + count ≤ start (map f ls) (suc last)) ⊎ (suc last ≡ length (map f ls))
-          → positions (map f ls) (start (map f ls) first + within₀) count ≡ record { first = first; end = suc last }
+          → positionsFor (map f ls) (start (map f ls) first + within₀) count ≡ record { first = first; end = suc last }
       last-touched last o k b s u =
           let n = length-sizes in
           let e = next-start first given in
@@ -114,7 +115,7 @@ module _ (f : ℕ → ℕ) (ls : List ℕ) where
 
       -- the last byte is in the unit of frame k
       pub reach-here : k < length ls → left ≤ f (getD ls k 0) - within
-          → record { first = first; end = k + 1 } ≡ positions (map f ls) (start (map f ls) first + within₀) count
+          → record { first = first; end = k + 1 } ≡ positionsFor (map f ls) (start (map f ls) first + within₀) count
       reach-here h l =
           let e = next-start k h in
           let p = r .place in
@@ -133,7 +134,7 @@ module _ (f : ℕ → ℕ) (ls : List ℕ) where
           (record { onward = omega arith; known = h; more = omega arith; place = omega arith; before = λ g. sized (getD ls (suc k) 0) })
 
       -- the sound ends before
-      pub reach-end : length ls ≤ k → record { first = first; end = k } ≡ positions (map f ls) (start (map f ls) first + within₀) count
+      pub reach-end : length ls ≤ k → record { first = first; end = k } ≡ positionsFor (map f ls) (start (map f ls) first + within₀) count
       reach-end h =
           let n = length-sizes in
           let g = r .known in

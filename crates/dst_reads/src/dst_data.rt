@@ -3,21 +3,20 @@ ghost use mathlib.Core.Path.{_≡_};
 ghost use Prim.Native.Nat.{_*_};
 ghost use lib.ListN.{length};
 ghost use Rattle.chunk_names.specs.Name.{ascii};
-ghost use Rattle.cursor.specs.Number.{be};
+ghost use Rattle.chunk.specs.Number.{be};
 ghost use Rattle.chunk.specs.Chunk.{chunk};
 ghost use Rattle.checksum.specs.Crc.{crcOf};
 ghost use Rattle.dst.specs.Frame.{plainBytes};
 ghost use Rattle.dst.specs.Unit.{unitBytes, sound, sizes};
 ghost use Rattle.dst.specs.Start.{sum};
-ghost use Rattle.sound_reads.specs.Positions.{positions, between};
+ghost use Rattle.sound_reads.specs.Positions.{positionsFor, between};
 ghost use Rattle.window.specs.Window.{Wrote};
 ghost use Rattle.sound_reads.specs.Fill.{Filling};
 ghost use Rattle.sound_reads.specs.Lent.{neededAt, isLent, lentFrames, framesWith};
 use crate::walk::locate;
 use crate::walk::touched;
 use checksum::crc::crc;
-use chunk::chunks::chunk_head;
-use cursor::Cursor;
+use chunk::Cursor;
 use dst::frame::plain_bytes;
 use sound_reads::lent::Fill;
 use sound_reads::lent::filled;
@@ -32,7 +31,7 @@ fn dstf(out: &mut [u8], w: Window, frame: &[u8]) -> Window
 {
     let mut header = [0u8; 12];
     let c = Cursor::new();
-    chunk_head(c, &mut header, *b"DSTF", frame.len() as u64);
+    c.chunk_head(&mut header, *b"DSTF", frame.len() as u64);
     let w1 = w.put(out, &header);
     let w2 = w1.put(out, frame);
     let zero = [0u8];
@@ -46,7 +45,7 @@ fn dstc_bytes(content: &[u8]) -> [u8; 16]
 {
     let mut bytes = [0u8; 16];
     let c = Cursor::new();
-    let c1 = chunk_head(c, &mut bytes, *b"DSTC", 4);
+    let c1 = c.chunk_head(&mut bytes, *b"DSTC", 4);
     c1.be32(&mut bytes, crc(content));
     bytes
 }
@@ -106,7 +105,7 @@ fn units(
 // The positions that a read of so many bytes from a place of the sound on needs: the first whose unit it touches and one past the last, 0
 // and 0 for none.
 pub fn positions(crc: bool, lengths: &[u32], from: u64, count: u64) -> Positions
-    ensures { λ r. ⌜ r ≡ positions (sizes crc (now (lengths .entry))) from count ⌝ }
+    ensures { λ r. ⌜ r ≡ positionsFor (sizes crc (now (lengths .entry))) from count ⌝ }
 {
     let place = locate(crc, lengths, from);
     touched(crc, lengths, place, count)

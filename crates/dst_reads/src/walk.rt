@@ -4,8 +4,9 @@ ghost use Prim.Native.Nat.{ℕ, _+_, _≤_, _<_};
 ghost use lib.ListN.{length, getD};
 ghost use Rattle.dst.specs.Unit.{sizes};
 ghost use Rattle.dst.specs.Start.{start};
-ghost use Rattle.sound_reads.specs.Place.{placeOf, byteAt, Inside};
-ghost use Rattle.sound_reads.specs.Positions.{positions};
+ghost use Rattle.sound_reads.specs.Place.{placeOf};
+ghost use Rattle.sound_reads.specs.Steps.{byteAt, Inside};
+ghost use Rattle.sound_reads.specs.Positions.{positionsFor};
 use dst::unit::unit_size;
 use sound_reads::place::Place;
 use sound_reads::place::Positions;
@@ -103,7 +104,7 @@ pub fn locate(crc: bool, lengths: &[u32], place: u64) -> Place
 // The positions whose units so many bytes from a place on touch.
 pub(crate) fn touched(crc: bool, lengths: &[u32], place: Place, count: u64) -> Positions
     requires { ⌜ Inside (sizes crc (now lengths)) place ⌝ }
-    ensures { λ r. ⌜ r ≡ positions (sizes crc (now (lengths .entry))) (byteAt (sizes crc (now (lengths .entry))) place) count ⌝ }
+    ensures { λ r. ⌜ r ≡ positionsFor (sizes crc (now (lengths .entry))) (byteAt (sizes crc (now (lengths .entry))) place) count ⌝ }
 {
     let first = place.position;
     if (count == 0) | (lengths.len() <= first) {

@@ -7,7 +7,7 @@ use native.Mathlib.Omega.{arith}
 use lib.Dec.{eqb}
 use borrow.Author.Tests.{ne-eqb}
 use lib.ListN.{length, take, getD}
-use Rattle.cursor.specs.Append.{overlay}
+use Rattle.chunk.specs.Append.{overlay}
 use Rattle.tree.specs.Gather.{Read, refused, accepted}
 use Rattle.dst.specs.Frame.{Frame}
 use Rattle.refusal.specs.declared.verdict.Verdict.{Verdict}
@@ -17,7 +17,7 @@ use Rattle.build_options.specs.Inputs.{Inputs}
 use Rattle.words.specs.Border.{wordsFault}
 use Rattle.build_answer.specs.declared.answer.Answer.{Answer}
 use Rattle.build_answer.specs.declared.answer.Answer.the-variants.{Built, Refused}
-use Rattle.build_answer.specs.Answer.{numberOf, valuesOf}
+use Rattle.build_answer.specs.Answer.{buildNumber, buildValues}
 use Rattle.assemble.specs.Build.{buildVerdict, Outcome}
 use Rattle.read_answer.specs.declared.answer.ReadAnswer.{ReadAnswer}
 use Rattle.read_answer.specs.declared.answer.ReadAnswer.the-variants as answer
@@ -44,8 +44,8 @@ module _ (e : ExportedBuild) where
   by-fault (verdict.Refused n d) v border header sound trailer is o told =
       let a = o .answers in let z : _≡_ {A = ℕ} 0 1 = cc in absurd (omega arith)
 
-  by-answer : (r : Answer) → Leaves (orElse (wordsFault (e .words)) (buildVerdict x (e .headerBefore) (e .trailerBefore))) r → 0 ≡ numberOf r
-      → e .values ≡ overlay (e .valuesBefore) 0 (valuesOf r) → Accepts e
+  by-answer : (r : Answer) → Leaves (orElse (wordsFault (e .words)) (buildVerdict x (e .headerBefore) (e .trailerBefore))) r → 0 ≡ buildNumber r
+      → e .values ≡ overlay (e .valuesBefore) 0 (buildValues r) → Accepts e
   by-answer (Built header sound trailer) promise zero told =
       by-fault (wordsFault (e .words)) (buildVerdict x (e .headerBefore) (e .trailerBefore)) refl header sound trailer refl promise told
   by-answer (Refused n d) promise zero told =

@@ -3,12 +3,12 @@ use mathlib.Core.Path.{_≡_, refl}
 use mathlib.Core.List.{List, [], _∷_}
 use Prim.Native.Nat.{ℕ}
 use native.Mathlib.Omega.{arith}
-use Rattle.cursor.specs.Append.{overlay}
+use Rattle.chunk.specs.Append.{overlay}
 use Rattle.refusal.specs.declared.verdict.Verdict.{Verdict}
 use Rattle.refusal.specs.declared.verdict.Verdict.the-variants as verdict
 use Rattle.build_answer.specs.declared.answer.Answer.{Answer}
 use Rattle.build_answer.specs.declared.answer.Answer.the-variants.{Built, Refused}
-use Rattle.build_answer.specs.Answer.{numberOf, valuesOf}
+use Rattle.build_answer.specs.Answer.{buildNumber, buildValues}
 use Rattle.sound_reads.specs.declared.place.Positions.{Positions}
 use Rattle.word_builds.specs.Build.{BuildsUnless}
 use Rattle.words.specs.Border.{wordsFault}
@@ -29,7 +29,7 @@ use Rattle.exported_reads.proofs.NumberLaws.{exported-numbered, refused
 
 module _ (e : ExportedBuild) where
   by-answer : (r : Answer) → BuildsUnless (wordsFault (e .words)) (inputsBy e) (e .headerBefore) (e .headerBuffer) (e .trailerBefore) (e .trailerBuffer) r
-      → e .number ≡ numberOf r → e .values ≡ overlay (e .valuesBefore) 0 (valuesOf r) → ¬ (e .number ≡ 0) → RefusedBuild e
+      → e .number ≡ buildNumber r → e .values ≡ overlay (e .valuesBefore) 0 (buildValues r) → ¬ (e .number ≡ 0) → RefusedBuild e
   by-answer (Built header sound trailer) promise number told refused = absurd (refused number)
   by-answer (Refused n d) promise number told refused =
       let stays =

@@ -6,12 +6,12 @@ use mathlib.Core.List.{List, [], _∷_, map}
 use Prim.Native.Nat.{ℕ}
 use lib.Dec.{eqb}
 use lib.ListN.{length, take, getD}
-use Rattle.cursor.specs.Append.{overlay}
+use Rattle.chunk.specs.Append.{overlay}
 use Rattle.tree.specs.Gather.{Read, refused, accepted}
 use Rattle.dst.specs.Frame.{Frame}
 use Rattle.refusal.specs.declared.verdict.Verdict.the-variants.{Accepted}
 use Rattle.build_options.specs.Inputs.{Inputs}
-use Rattle.words.specs.Inputs.{inputsOf}
+use Rattle.words.specs.Inputs.{inputsOfWords}
 use Rattle.words.specs.Border.{wordsFault}
 use Rattle.build_answer.specs.declared.answer.Answer.the-variants.{Built}
 use Rattle.assemble.specs.Build.{Builds}
@@ -38,12 +38,12 @@ pub record ExportedBuild : Type 0 where
   pub valuesBefore : List ℕ
   pub values : List ℕ
   pub number : ℕ
-  pub promise : Exported (wordsFault words) (inputsOf words pool raw tracks markers comments callers lengths)
+  pub promise : Exported (wordsFault words) (inputsOfWords words pool raw tracks markers comments callers lengths)
       headerBefore headerBuffer trailerBefore trailerBuffer valuesBefore values number
 
 -- the inputs that its words mean
 abbrev pub inputsBy : ExportedBuild → Inputs
-inputsBy e = inputsOf (e .words) (e .pool) (e .raw) (e .tracks) (e .markers) (e .comments) (e .callers) (e .lengths)
+inputsBy e = inputsOfWords (e .words) (e .pool) (e .raw) (e .tracks) (e .markers) (e .comments) (e .callers) (e .lengths)
 
 -- its words have no fault, it was accepted, and the lengths of header, sound and trailer are in the values, as many as they had room for
 pub record Accepts (e : ExportedBuild) : Type 0 where
@@ -78,7 +78,7 @@ pub record ExportedRead : Type 0 where
   pub last : List ℕ
   pub value : List ℕ
   pub number : ℕ
-  pub promise : abi.Read request out last value number
+  pub promise : abi.ReadAnswered request out last value number
 
 abbrev pub callOf : ExportedRead → Call
 callOf c = record { request = c .request; out = c .out; last = c .last; answer = c .promise .answer; promise = c .promise .promise }

@@ -3,7 +3,7 @@
 use mathlib.Core.Path.{_≡_}
 use mathlib.Core.List.{List, [], _∷_}
 use Prim.Native.Nat.{ℕ, _≤_}
-use Rattle.cursor.specs.Append.{overlay}
+use Rattle.chunk.specs.Append.{overlay}
 use lib.ListN.{length}
 use Rattle.refusal.specs.Verdict.{orElse}
 use Rattle.refusal.specs.declared.verdict.Verdict.the-variants.{Refused}

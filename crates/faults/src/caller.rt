@@ -1,6 +1,6 @@
 // 4 and 5: the names of caller chunks.
 ghost use mathlib.Core.Path.{_≡_};
-ghost use Rattle.cursor.specs.Number.{be};
+ghost use Rattle.chunk.specs.Number.{be};
 ghost use Rattle.faults.specs.Caller.{spaceThenMore, isNoName, nameFault, callerFaults};
 use refusal::verdict::Verdict;
 use refusal::verdict::refuse_if;

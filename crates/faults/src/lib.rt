@@ -1,4 +1,5 @@
-// What can be wrong with the caller chunks, bytes of texts, and markers that a build is lent: each check by itself.
+// Faults of lent lists by themselves, whatever the options say: names of caller chunks (4, 5), bytes of texts (31, 33), given markers (32, 33). Whether
+// they count is said in `rules`; faults of comments are in `comment_faults`.
 pub mod caller; // caller.rt: 4 and 5, the names of caller chunks
 pub mod text_bytes; // text_bytes.rt: bytes that no text has (31, 33)
 pub mod marks; // marks.rt: 32 and 33, given markers

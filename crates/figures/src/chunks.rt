@@ -1,6 +1,5 @@
 use crate::print;
-use chunk::chunks::chunk;
-use cursor::Cursor;
+use chunk::Cursor;
 
 fn time(g: u64) {
     let t = frame_time::time::time(g);
@@ -21,7 +20,7 @@ fn time(g: u64) {
     print::bytes(&out);
 }
 
-pub fn times() {
+pub(crate) fn times() {
     time(0);
     time(74);
     time(75);
@@ -39,7 +38,7 @@ fn size(d: u64) {
     print::text(b"\n");
 }
 
-pub fn sizes() {
+pub(crate) fn sizes() {
     size(0);
     size(19);
     size(20);
@@ -48,36 +47,36 @@ pub fn sizes() {
     size(u64::MAX);
 }
 
-pub fn chunks() {
+pub(crate) fn chunks() {
     let c = Cursor::new();
     let mut fver = [0xEEu8; 16];
     let version = [1u8, 5, 0, 0];
-    chunk(c, &mut fver, *b"FVER", &version);
+    c.chunk(&mut fver, *b"FVER", &version);
     print::text(b"FVER:");
     print::bytes(&fver);
 
     let mut odd = [0xEEu8; 20];
-    chunk(c, &mut odd, *b"EMID", b"abc");
+    c.chunk(&mut odd, *b"EMID", b"abc");
     print::text(b"EMID, 3 bytes, of a buffer of 20:");
     print::bytes(&odd);
 
     let mut even = [0xEEu8; 20];
-    chunk(c, &mut even, *b"EMID", b"abcd");
+    c.chunk(&mut even, *b"EMID", b"abcd");
     print::text(b"EMID, 4 bytes, of a buffer of 20:");
     print::bytes(&even);
 }
 
-pub fn short_buffers() {
+pub(crate) fn short_buffers() {
     let c = Cursor::new();
     let mut short = [0xEEu8; 15];
-    let d = chunk(c, &mut short, *b"EMID", b"abcd");
+    let d = c.chunk(&mut short, *b"EMID", b"abcd");
     print::text(b"EMID, 4 bytes, of a buffer of 15:");
     print::bytes(&short);
     print::text(b"cursor at ");
     print::number(d.at as u64);
 
     let mut none = [0xEEu8; 0];
-    let e = chunk(c, &mut none, *b"EMID", b"abcd");
+    let e = c.chunk(&mut none, *b"EMID", b"abcd");
     print::text(b"\nmeasured on an empty buffer: ");
     print::number(e.at as u64);
 
@@ -96,7 +95,7 @@ fn reserved(id: [u8; 4]) {
     print::yes_or_no(chunk_names::is_reserved(id));
 }
 
-pub fn names() {
+pub(crate) fn names() {
     reserved(*b"FRM8");
     reserved(*b"MANF");
     reserved(*b"DSTF");

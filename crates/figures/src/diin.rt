@@ -1,7 +1,7 @@
 // DIIN and its markers. The bytes that it must have were taken out of the original's files.
 use crate::print;
+use chunk::Cursor;
 use chunk_names::InfoChunk;
-use cursor::Cursor;
 use diin_texts::diin_text::Text;
 use master_info::diin::Info;
 use master_info::pick::ArtistTitle;
@@ -242,7 +242,7 @@ fn others() {
     diin(b"info off", &none, &none, order, nothing(false, true));
 }
 
-pub fn cases() {
+pub(crate) fn cases() {
     programs();
     others();
 }

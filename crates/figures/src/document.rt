@@ -210,7 +210,7 @@ fn channel_numbers() {
     answer(b"channel numbers 5, 5, 1000", &words, &none, &none);
 }
 
-pub fn figures() {
+pub(crate) fn figures() {
     tracks();
     markers();
     lengths();

@@ -1,15 +1,15 @@
 use libc::STDOUT_FILENO;
 
-pub fn text(s: &[u8]) {
+pub(crate) fn text(s: &[u8]) {
     io::write_all(STDOUT_FILENO, s);
 }
 
-pub fn number(n: u64) {
+pub(crate) fn number(n: u64) {
     io::print_decimal(STDOUT_FILENO, n);
 }
 
 // The length of a line of bytes, which follows.
-pub fn length(n: usize) {
+pub(crate) fn length(n: usize) {
     text(b", ");
     number(n as u64);
     text(b" bytes:");
@@ -20,7 +20,7 @@ fn wide(b: u8) -> u64 {
 }
 
 // A line of bytes, each as two hexadecimal digits.
-pub fn bytes(s: &[u8]) {
+pub(crate) fn bytes(s: &[u8]) {
     let mut i = 0;
     while i < s.len() {
         text(b" ");
@@ -31,7 +31,7 @@ pub fn bytes(s: &[u8]) {
 }
 
 // A line of the first n bytes, or of all if there are fewer.
-pub fn front(s: &[u8], n: usize) {
+pub(crate) fn front(s: &[u8], n: usize) {
     if n <= s.len() {
         bytes(&s[0..n]);
         return;
@@ -39,7 +39,7 @@ pub fn front(s: &[u8], n: usize) {
     bytes(s);
 }
 
-pub fn yes_or_no(yes: bool) {
+pub(crate) fn yes_or_no(yes: bool) {
     if yes {
         text(b" yes\n");
     } else {

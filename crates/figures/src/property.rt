@@ -1,7 +1,7 @@
 // PROP. The bytes that it must have were taken out of the original's files.
 use crate::print;
+use chunk::Cursor;
 use chunk_names::PropertyChunk;
-use cursor::Cursor;
 use prop::property::Properties;
 use prop_fields::compression::Sound;
 use prop_fields::layout::ChannelNumbers;
@@ -66,7 +66,7 @@ fn property(title: &[u8], order: [PropertyChunk; 5], p: Properties) {
     print::front(&out, end.at);
 }
 
-pub fn cases() {
+pub(crate) fn cases() {
     let order = PropertyChunk::table_order();
     property(
         b"stereo DSD",

@@ -1,6 +1,6 @@
 // The sound of a file of two DST frames, of 3 and of 4 bytes, and the positions of DSD sound.
 use crate::print;
-use cursor::Cursor;
+use chunk::Cursor;
 use dsd_reads::dsd_data;
 use dst::unit;
 use dst_index::index::DstIndexOffset;
@@ -144,7 +144,7 @@ fn dsd_positions(from: u64, count: u64) {
     touched(b"DSD", from, count, dsd_data::positions(2, 3, from, count));
 }
 
-pub fn cases() {
+pub(crate) fn cases() {
     crc(b"");
     crc(b"\x01");
     crc(b"\x00\x11\x22\x33\x44\x55\x66\x77\x88\x99\xAA\xBB\xCC\xDD\xEE\xFF");

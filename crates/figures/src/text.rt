@@ -1,7 +1,7 @@
 // Texts and comments of random cases. The bytes that they must have were taken out of the original's files.
 use crate::print;
 use crate::text_cases;
-use cursor::Cursor;
+use chunk::Cursor;
 use diin_texts::diin_text::Text;
 use texts::extent::Extent;
 use texts::text::TextOptions;
@@ -170,7 +170,7 @@ fn case_12() {
     case(12, &pool, artist, title, &rows, options);
 }
 
-pub fn cases() {
+pub(crate) fn cases() {
     case_1();
     case_2();
     case_3();

@@ -4,10 +4,11 @@ use mathlib.Core.Bool.{Bool, true, false, cond}
 use mathlib.Core.List.{List, [], flatMap}
 use Prim.Native.Nat.{ℕ, _+_, _<_}
 use lib.ListN.{length, take, getD}
-use Rattle.cursor.specs.Append.{Appended}
+use Rattle.chunk.specs.Append.{Appended}
 use Rattle.chunk_names.specs.declared.LocalChunk.{LocalChunk}
-use Rattle.cursor.proofs.AppendLaws.{_then_, kept}
-use Rattle.file_tree.specs.Sides.{isSound, onSide, hasSound, before, behind, side}
+use Rattle.chunk.proofs.AppendLaws.{_then_, kept}
+use Rattle.file_tree.specs.Sides.{isSound, before, behind}
+use Rattle.file_tree.specs.Steps.{onSide, hasSound, side}
 use Rattle.file_tree.proofs.SideLaws.{side-next}
 
 pub side-none : (b : Bool) → side b [] ≡ []

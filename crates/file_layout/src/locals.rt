@@ -2,7 +2,7 @@
 ghost use mathlib.Core.Path.{_≡_};
 ghost use mathlib.Core.Bool.{cond, _&&_};
 ghost use mathlib.Core.List.{[]};
-ghost use Rattle.cursor.specs.Append.{Appended, moved};
+ghost use Rattle.chunk.specs.Append.{Appended, moved};
 ghost use Rattle.tree.specs.Tree.{bytes};
 ghost use Rattle.dst_index.specs.Index.{shiftOf, dsti};
 ghost use Rattle.prop.specs.Property.{property};
@@ -10,14 +10,15 @@ ghost use Rattle.master_info.specs.Diin.{diin};
 ghost use Rattle.build_options.specs.Options.{effective, infoOf};
 ghost use Rattle.build_options.specs.Area.{isDst};
 ghost use Rattle.file_tree.specs.Parts.{partsOf, propertiesOf};
-ghost use Rattle.file_tree.specs.Sides.{isSound, onSide, named, side, localBytes, localsBytes};
+ghost use Rattle.file_tree.specs.Sides.{isSound, givenNames, localBytes, localsBytes};
+ghost use Rattle.file_tree.specs.Steps.{onSide, side};
 use build_options::area::Area;
 use build_options::options::Options;
 use build_options::options::Settings;
+use chunk::Cursor;
 use chunk_names::InfoChunk;
 use chunk_names::LocalChunk;
 use chunk_names::PropertyChunk;
-use cursor::Cursor;
 use prop::property::Properties;
 use prop_fields::compression::Sound;
 
@@ -206,7 +207,7 @@ pub(crate) fn local_chunks(
     lengths: &[u32],
 ) -> Cursor
     ensures { λ r. ⌜ Appended (now (out .entry)) (c .at)
-        (localsBytes (partsOf area options «property_order» «info_order» (now (pool .entry)) (now (raw .entry)) (now (tracks .entry)) (now (markers .entry)) (now (comments .entry)) (now (lengths .entry))) base (side behind (named order count)))
+        (localsBytes (partsOf area options «property_order» «info_order» (now (pool .entry)) (now (raw .entry)) (now (tracks .entry)) (now (markers .entry)) (now (comments .entry)) (now (lengths .entry))) base (side behind (givenNames order count)))
         (now (out .exit)) (r .at) ⌝ }
 {
     let mut c = c;

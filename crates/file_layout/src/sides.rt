@@ -1,14 +1,13 @@
 // FRM8's data up to the first sound byte, and what follows the sound.
-ghost use Rattle.cursor.specs.Append.{Appended};
+ghost use Rattle.chunk.specs.Append.{Appended};
 ghost use Rattle.file_tree.specs.Parts.{partsOf};
-ghost use Rattle.file_tree.specs.Sides.{named, front, back};
+ghost use Rattle.file_tree.specs.Sides.{givenNames, front, back};
 use build_options::area::Area;
 use build_options::options::Options;
-use chunk::chunks::chunk;
+use chunk::Cursor;
 use chunk_names::InfoChunk;
 use chunk_names::LocalChunk;
 use chunk_names::PropertyChunk;
-use cursor::Cursor;
 
 // The version of the format.
 const VERSION: [u8; 4] = [1, 5, 0, 0];
@@ -32,12 +31,12 @@ pub fn front(
     lengths: &[u32],
 ) -> Cursor
     ensures { λ r. ⌜ Appended (now (out .entry)) (c .at)
-        (front (partsOf area options «property_order» «info_order» (now (pool .entry)) (now (raw .entry)) (now (tracks .entry)) (now (markers .entry)) (now (comments .entry)) (now (lengths .entry))) base (named «local_order» «local_count»))
+        (front (partsOf area options «property_order» «info_order» (now (pool .entry)) (now (raw .entry)) (now (tracks .entry)) (now (markers .entry)) (now (comments .entry)) (now (lengths .entry))) base (givenNames «local_order» «local_count»))
         (now (out .exit)) (r .at) ⌝ }
 {
     let version = VERSION;
     let c = c.name(out, *b"DSD ");
-    let c = chunk(c, out, *b"FVER", &version);
+    let c = c.chunk(out, *b"FVER", &version);
     let c = crate::locals::local_chunks(
         c,
         out,
@@ -79,7 +78,7 @@ pub fn back(
     lengths: &[u32],
 ) -> Cursor
     ensures { λ r. ⌜ Appended (now (out .entry)) (c .at)
-        (back (partsOf area options «property_order» «info_order» (now (pool .entry)) (now (raw .entry)) (now (tracks .entry)) (now (markers .entry)) (now (comments .entry)) (now (lengths .entry))) base (named «local_order» «local_count») (now (callers .entry)))
+        (back (partsOf area options «property_order» «info_order» (now (pool .entry)) (now (raw .entry)) (now (tracks .entry)) (now (markers .entry)) (now (comments .entry)) (now (lengths .entry))) base (givenNames «local_order» «local_count») (now (callers .entry)))
         (now (out .exit)) (r .at) ⌝ }
 {
     let end = crate::locals::local_chunks(

@@ -1,18 +1,17 @@
 // The sound chunk up to the first sound byte, and the sound's length.
 ghost use mathlib.Core.Path.{_≡_};
 ghost use Prim.Native.Nat.{_*_, _-_, _^_, min};
-ghost use Rattle.cursor.specs.Append.{Appended};
+ghost use Rattle.chunk.specs.Append.{Appended};
 ghost use Rattle.dst.specs.Frame.{frameBytes};
-ghost use Rattle.build_options.specs.Area.{positions};
+ghost use Rattle.build_options.specs.Area.{areaPositions};
 ghost use Rattle.file_tree.specs.Sound.{soundSize, soundHead};
 use build_options::area::Area;
-use chunk::chunks::chunk_head;
-use cursor::Cursor;
+use chunk::Cursor;
 use prop_fields::compression::Sound;
 
 // The length of DSD sound: so many frames.
 fn dsd_size(area: Area) -> u64
-    ensures { λ r. ⌜ r ≡ positions area * frameBytes (area .channels) ⌝ }
+    ensures { λ r. ⌜ r ≡ areaPositions area * frameBytes (area .channels) ⌝ }
 {
     area.positions() as u64 * dst::frame::frame_bytes(area.channels) as u64
 }
@@ -40,7 +39,7 @@ pub fn sound_head(c: Cursor, out: &mut [u8], area: Area, crc: bool, lengths: &[u
     match sound {
         Sound::Dsd => {
             let size = dsd_size(area);
-            return chunk_head(c, out, *b"DSD ", size);
+            return c.chunk_head(out, *b"DSD ", size);
         }
         Sound::Dst => {
             return dst::head::head(c, out, crc, lengths);

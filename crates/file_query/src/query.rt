@@ -1,7 +1,7 @@
 // The query: which positions a read of a whole file needs.
 ghost use mathlib.Core.Path.{_≡_};
 ghost use Prim.Native.Nat.{_-_};
-ghost use Rattle.sound_reads.specs.Positions.{positions};
+ghost use Rattle.sound_reads.specs.Positions.{positionsFor};
 ghost use Rattle.read_rules.specs.Format.{unitSizes};
 ghost use Rattle.file_query.specs.Query.{queryOf};
 use prop_fields::compression::Sound;
@@ -22,7 +22,7 @@ fn less(a: u64, b: u64) -> u64
 
 // The positions that so many bytes from a place of the sound on touch.
 fn sound_positions(format: SoundFormat, lengths: &[u32], from: u64, count: u64) -> Positions
-    ensures { λ r. ⌜ r ≡ positions (unitSizes format (now (lengths .entry))) from count ⌝ }
+    ensures { λ r. ⌜ r ≡ positionsFor (unitSizes format (now (lengths .entry))) from count ⌝ }
 {
     let sound = format.sound;
     match sound {

@@ -9,7 +9,7 @@ use Rattle.window.specs.Window.{after, Wrote}
 use Rattle.window.proofs.WindowLaws.{_then_, before}
 use Rattle.sound_reads.specs.declared.lent.Fill.{Fill}
 use Rattle.sound_reads.specs.declared.lent.Fill.the-variants.{Filled, NotLent}
-use Rattle.sound_reads.specs.Positions.{positions}
+use Rattle.sound_reads.specs.Positions.{positionsFor}
 use Rattle.sound_reads.specs.Lent.{neededAt}
 use Rattle.read_rules.specs.Format.{unitSizes}
 use Rattle.read_rules.specs.Needed.{needed}
@@ -31,7 +31,7 @@ module _ (q : Request) (out : List ℕ) where
   unfolding after needed
   needed-behind =
       let e : length out - (0 + min (length (q .header) - q .offset) (length out - 0)) ≡ length out - (length (q .header) - q .offset) = omega arith in
-      ap (λ (n : ℕ). positions (unitSizes (q .format) (q .lengths)) (q .offset - length (q .header)) n) e
+      ap (λ (n : ℕ). positionsFor (unitSizes (q .format) (q .lengths)) (q .offset - length (q .header)) n) e
 
   -- what `fill` promises at a place
   abbrev Sounds : Window → List ℕ → Fill → Type 0

@@ -9,7 +9,7 @@ use Rattle.chunk_names.specs.declared.PropertyChunk.{PropertyChunk}
 use Rattle.chunk_names.specs.declared.PropertyChunk.the-variants.{SampleRate, Channels, CompressionType, AbsoluteStartTime, LoudspeakerConfiguration}
 use Rattle.tree.specs.Tree.{each}
 use Rattle.prop.specs.declared.property.Properties.{Properties}
-use Rattle.prop.specs.Property.{idOf, isWritten}
+use Rattle.prop.specs.Property.{idOf, isPropertyWritten}
 use Rattle.refusal.specs.Orders.{propertyRank, times}
 use Rattle.file_reports.specs.Values.{propertyValue, propertyTold}
 use Rattle.file_reports.specs.Recording.{Known}
@@ -19,15 +19,15 @@ use Rattle.file_reports.proofs.OnceLaws.{once}
 module _ (known : Name → Name → Bool) (q : Properties) where
   -- what is reported of a chunk of PROP
   abbrev reported : PropertyChunk → List (List ℕ)
-  reported c = cond (known (ascii "PROP") (idOf c)) (cond (isWritten q c) (propertyValue q c ∷ []) []) []
+  reported c = cond (known (ascii "PROP") (idOf c)) (cond (isPropertyWritten q c) (propertyValue q c ∷ []) []) []
 
   found-property : (n : Name) (c : PropertyChunk) → found (ascii "PROP") n known (ascii "PROP") (propertyTold q c) ≡ cond (same (idOf c) n) (reported c) []
   unfolding propertyTold same
-  found-property n c = found-if (ascii "PROP") n known (ascii "PROP") (isWritten q c) (idOf c) (propertyValue q c)
+  found-property n c = found-if (ascii "PROP") n known (ascii "PROP") (isPropertyWritten q c) (idOf c) (propertyValue q c)
 
   -- the chunks have as many names as ranks
   ranked : (d c : PropertyChunk) → cond (same (idOf c) (idOf d)) (reported c) [] ≡ cond (eqb (propertyRank c) (propertyRank d)) (reported d) []
-  unfolding idOf same isWritten propertyValue
+  unfolding idOf same isPropertyWritten propertyValue
   ranked SampleRate c = elim c [ SampleRate ↦ refl | Channels ↦ refl | CompressionType ↦ refl | AbsoluteStartTime ↦ refl | LoudspeakerConfiguration ↦ refl ]
   ranked Channels c = elim c [ SampleRate ↦ refl | Channels ↦ refl | CompressionType ↦ refl | AbsoluteStartTime ↦ refl | LoudspeakerConfiguration ↦ refl ]
   ranked CompressionType c = elim c [ SampleRate ↦ refl | Channels ↦ refl | CompressionType ↦ refl | AbsoluteStartTime ↦ refl | LoudspeakerConfiguration ↦ refl ]
@@ -35,7 +35,7 @@ module _ (known : Name → Name → Bool) (q : Properties) where
   ranked LoudspeakerConfiguration c =
       elim c [ SampleRate ↦ refl | Channels ↦ refl | CompressionType ↦ refl | AbsoluteStartTime ↦ refl | LoudspeakerConfiguration ↦ refl ]
 
-  pub found-properties : (d : PropertyChunk) → Known known (ascii "PROP") (idOf d) → isWritten q d ≡ true
+  pub found-properties : (d : PropertyChunk) → Known known (ascii "PROP") (idOf d) → isPropertyWritten q d ≡ true
       → (order : List PropertyChunk) → times (map propertyRank order) (propertyRank d) ≡ 1
       → found (ascii "PROP") (idOf d) known (ascii "PROP") (each (propertyTold q) order) ≡ propertyValue q d ∷ []
   found-properties d k w order e =

@@ -18,7 +18,7 @@ use Rattle.diin_texts.specs.declared.diin_text.Text.the-variants.{Absent, Given
 use Rattle.diin_texts.specs.DiinText.{diinTextValue}
 use Rattle.comt.specs.Comment.{writtenComments, hasComt, comtValue}
 use Rattle.prop.specs.declared.property.Properties.{Properties}
-use Rattle.prop.specs.Property.{idOf, isWritten}
+use Rattle.prop.specs.Property.{idOf, isPropertyWritten}
 use Rattle.master_info.specs.declared.diin.Info.{Info}
 use Rattle.master_info.specs.Diin.{marking, markersOf, artistOf, titleOf, emid, hasDiin}
 use Rattle.dst.specs.Frame.{Frame}
@@ -52,7 +52,7 @@ module _ (p n : Name) (known : Name → Name → Bool) where
   -- the chunks in PROP and in DIIN
   in-property : same (ascii "PROP") p ≡ false → (q : Properties) (c : PropertyChunk) → found p n known (ascii "PROP") (propertyTold q c) ≡ []
   unfolding propertyTold
-  in-property e q c = missed-if p n known (ascii "PROP") (isWritten q c) _ (missed-leaf p n known (ascii "PROP") (idOf c) (propertyValue q c) (rw e))
+  in-property e q c = missed-if p n known (ascii "PROP") (isPropertyWritten q c) _ (missed-leaf p n known (ascii "PROP") (idOf c) (propertyValue q c) (rw e))
 
   module _ (away : same (ascii "DIIN") p ≡ false) where
     in-text : (name : Name) (pool : List ℕ) (t : Text) (o : TextOptions) → found p n known (ascii "DIIN") (textTold name pool t o) ≡ []

@@ -15,7 +15,7 @@ use Rattle.prop_fields.specs.declared.compression.Sound.{Sound}
 use Rattle.prop_fields.specs.declared.compression.Sound.the-variants.{Dsd, Dst}
 use Rattle.prop_fields.specs.Compression.{compressionData, cmprData}
 use Rattle.prop.specs.declared.property.Properties.{Properties}
-use Rattle.prop.specs.Property.{idOf, contentOf, isWritten, propertyChunk}
+use Rattle.prop.specs.Property.{idOf, contentOf, isPropertyWritten, propertyChunk}
 use Rattle.file_reports.specs.Values.{compressionValue, propertyValue, propertyTold}
 use Rattle.file_reports.proofs.ReportLaws.{Tells, stop-tells, leaf-tells, if-tells}
 
@@ -41,4 +41,4 @@ property-value p LoudspeakerConfiguration = refl
 
 pub property-tells : (known : Name → Name → Bool) (p : Properties) (part : PropertyChunk) → Tells known (ascii "PROP") (propertyChunk p part) (propertyTold p part)
 unfolding propertyChunk propertyTold
-property-tells known p part = if-tells (isWritten p part) (λ written. leaf-tells (property-value p part) stop-tells)
+property-tells known p part = if-tells (isPropertyWritten p part) (λ written. leaf-tells (property-value p part) stop-tells)

@@ -18,7 +18,7 @@ use Rattle.dst.specs.Unit.{units}
 use Rattle.dst.specs.Head.{rate, dst}
 use Rattle.prop_fields.specs.declared.compression.Sound.{Sound}
 use Rattle.prop_fields.specs.declared.compression.Sound.the-variants.{Dsd, Dst}
-use Rattle.prop.specs.Property.{idOf, isWritten}
+use Rattle.prop.specs.Property.{idOf, isPropertyWritten}
 use Rattle.refusal.specs.Orders.{propertyRank, localRank, times}
 use Rattle.refusal.specs.declared.verdict.Verdict.the-variants.{Accepted}
 use Rattle.refusal.proofs.VerdictLaws.{neither}
@@ -78,7 +78,7 @@ module _ (x : Inputs) (ok : verdict x ≡ Accepted) (known : Name → Name → B
       once-told e = locals-told ∙ once (reported p n) localRank (localRank d) (reported p n d) only (given x) e
 
     -- a chunk of PROP that is always written
-    property-told : (d : PropertyChunk) → propertyRank d < 5 → Known known (ascii "PROP") (idOf d) → isWritten (properties (parts x)) d ≡ true
+    property-told : (d : PropertyChunk) → propertyRank d < 5 → Known known (ascii "PROP") (idOf d) → isPropertyWritten (properties (parts x)) d ≡ true
         → valuesUnder (ascii "PROP") (idOf d) (told known x fs) ≡ propertyValue (properties (parts x)) d ∷ []
     unfolding same localTold
     property-told d low k w =
@@ -109,7 +109,7 @@ module _ (x : Inputs) (ok : verdict x ≡ Accepted) (known : Name → Name → B
             ∙ rw e (passed-node (ascii "DST ") n known (ascii "FRM8") (ascii "DST ") [] _ refl ∙ rw (k .0))
 
     pub recording : Recording x fs (told known x fs)
-    unfolding idOf isWritten propertyValue
+    unfolding idOf isPropertyWritten propertyValue
     recording = record {
       rate = property-told SampleRate (omega arith) (knows .rate) refl;
       channels = property-told Channels (omega arith) (knows .channels) refl;

@@ -4,7 +4,7 @@ use mathlib.Core.Bool.{Bool}
 use mathlib.Core.List.{List, [], _∷_}
 use Prim.Native.Nat.{ℕ}
 use lib.ListN.{getD}
-use Rattle.cursor.specs.Number.{be}
+use Rattle.chunk.specs.Number.{be}
 use Rattle.chunk_names.specs.Name.{Name, ascii, same}
 use Rattle.chunk.specs.Rows.{rows}
 use Rattle.tree.specs.Tree.{Chunks, stop, leaf, join, each}
@@ -12,7 +12,7 @@ use Rattle.tree.specs.Reader.{Reader, Shaped}
 use Rattle.tree.specs.Value.{inner, dsdiff}
 use Rattle.chunk_names.specs.declared.LocalChunk.{LocalChunk}
 use Rattle.chunk_names.specs.declared.LocalChunk.the-variants.{Property, SoundData, DstIndex, EditedMasterInfo, Comments}
-use Rattle.cursor.proofs.NumberLaws.{length-be}
+use Rattle.chunk.proofs.NumberLaws.{length-be}
 use Rattle.tree.proofs.TreeLaws.{shaped-join, shaped-each, shaped-if}
 use Rattle.comt.specs.Comment.{writtenComments, comtData, hasComt, comtChunk}
 use Rattle.checksum.specs.Crc.{crcOf}

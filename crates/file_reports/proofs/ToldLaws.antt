@@ -5,7 +5,7 @@ use mathlib.Core.List.{List, []}
 use Prim.Native.Nat.{ℕ, _^_}
 use native.Mathlib.Omega.{arith}
 use lib.ListN.{getD}
-use Rattle.cursor.specs.Number.{be}
+use Rattle.chunk.specs.Number.{be}
 use Rattle.chunk_names.specs.Name.{Name, ascii, same}
 use Rattle.chunk.specs.Rows.{rows}
 use Rattle.tree.specs.Reader.{reports}

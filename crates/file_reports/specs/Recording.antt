@@ -4,7 +4,7 @@ use mathlib.Core.Bool.{Bool, true, cond, _&&_}
 use mathlib.Core.List.{List, [], _∷_, map}
 use Prim.Native.Nat.{ℕ}
 use lib.ListN.{length}
-use Rattle.cursor.specs.Number.{be}
+use Rattle.chunk.specs.Number.{be}
 use Rattle.chunk_names.specs.Name.{Name, ascii, same}
 use Rattle.tree.specs.Reader.{Report}
 use Rattle.dst.specs.Frame.{Frame, dsdSound}

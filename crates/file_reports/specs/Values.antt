@@ -5,7 +5,7 @@ use Prim.Native.Nat.{ℕ}
 use mathlib.Core.Bool.{Bool, cond}
 use mathlib.Core.List.{List, []}
 use lib.ListN.{length}
-use Rattle.cursor.specs.Number.{be}
+use Rattle.chunk.specs.Number.{be}
 use Rattle.chunk_names.specs.Name.{Name, ascii}
 use Rattle.chunk.specs.Chunk.{counts}
 use Rattle.tree.specs.Tree.{Chunks, stop, leaf, node, join, each}
@@ -63,7 +63,7 @@ propertyValue p LoudspeakerConfiguration = be 2 (speakerCode (p .layout))
 
 -- a chunk of PROP, if it is written
 unfoldable pub propertyTold : Properties → PropertyChunk → Chunks
-propertyTold p part = cond (property.isWritten p part) (leaf (property.idOf part) (propertyValue p part) stop) stop
+propertyTold p part = cond (property.isPropertyWritten p part) (leaf (property.idOf part) (propertyValue p part) stop) stop
 
 -- MARK: its 18 bytes, and the text with its count
 unfoldable pub markTold : List ℕ → List ℕ → Marking → Marker → Chunks

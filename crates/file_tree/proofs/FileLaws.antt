@@ -5,13 +5,13 @@ use mathlib.Core.List.{List, [], _∷_, _++_, map, flatMap, append-assoc}
 use Prim.Native.Nat.{ℕ, _+_, _%_, _^_, _≤_, _<_}
 use native.Mathlib.Omega.{arith}
 use lib.ListN.{length, length-append}
-use Rattle.cursor.specs.Number.{be}
+use Rattle.chunk.specs.Number.{be}
 use Rattle.chunk_names.specs.Name.{ascii}
 use Rattle.chunk.specs.Chunk.{chunk, occupied}
 use Rattle.tree.specs.Tree.{Chunks, stop, leaf, node, bytes, join, each}
 use Rattle.chunk_names.specs.declared.LocalChunk.{LocalChunk}
 use Rattle.chunk_names.specs.declared.LocalChunk.the-variants.{Property, SoundData, DstIndex, EditedMasterInfo, Comments}
-use Rattle.cursor.proofs.NumberLaws.{length-be}
+use Rattle.chunk.proofs.NumberLaws.{length-be}
 use Rattle.chunk.proofs.ChunkLaws.{length-chunk}
 use Rattle.tree.proofs.TreeLaws.{bytes-stop, bytes-leaf, bytes-node, bytes-join, bytes-each}
 use Rattle.comt.specs.Comment.{writtenComments, comtData, hasComt, comtChunk}

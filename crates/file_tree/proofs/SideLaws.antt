@@ -13,7 +13,8 @@ use Rattle.chunk_names.specs.declared.LocalChunk.the-variants.{Property, SoundD
 use Rattle.chunk.proofs.ListLaws.{flatMap-append, flatMap-one}
 use Rattle.refusal.specs.Below.{below, howMany}
 use Rattle.refusal.specs.Orders.{localRank, times}
-use Rattle.file_tree.specs.Sides.{isSound, onSide, hasSound, before, behind, side}
+use Rattle.file_tree.specs.Sides.{isSound, before, behind}
+use Rattle.file_tree.specs.Steps.{onSide, hasSound, side}
 
 has-sound-more : (cs : List LocalChunk) (c : LocalChunk) → hasSound (cs ++ (c ∷ [])) ≡ (hasSound cs || isSound c)
 unfolding hasSound

@@ -14,7 +14,7 @@ use Rattle.dst.proofs.UnitLaws.{chunk-even, length-sound, dst-bytes}
 use Rattle.prop_fields.specs.declared.compression.Sound.{Sound}
 use Rattle.prop_fields.specs.declared.compression.Sound.the-variants.{Dsd, Dst}
 use Rattle.build_options.specs.declared.area.Area.{Area}
-use Rattle.build_options.specs.Area.{positions}
+use Rattle.build_options.specs.Area.{areaPositions}
 use Rattle.file_tree.specs.Sound.{soundBytes, soundChunk, Fits, soundSize, soundHead}
 
 -- contents of k bytes each
@@ -30,7 +30,7 @@ length-contents (suc n) k (f ∷ fs) e =
 
 pub length-soundBytes : (s : Sound) (a : Area) (crc : Bool) (ls : List ℕ) (fs : List Frame) → Fits s a ls fs → length (soundBytes s crc fs) ≡ soundSize s a crc ls
 unfolding soundBytes soundSize
-length-soundBytes Dsd a crc ls fs fits = length-contents (positions a) (frameBytes (a .channels)) fs fits
+length-soundBytes Dsd a crc ls fs fits = length-contents (areaPositions a) (frameBytes (a .channels)) fs fits
 length-soundBytes Dst a crc ls fs fits = length-sound crc fs ∙ rw fits
 
 -- a frame's bytes are even, so the chunk has no pad
@@ -43,6 +43,6 @@ pub sound-bytes : (s : Sound) (a : Area) (crc : Bool) (ls : List ℕ) (fs : List
 unfolding soundBytes soundChunk soundHead soundSize
 sound-bytes Dsd a crc ls fs fits low =
     let size = length-soundBytes Dsd a crc ls fs fits in
-    let even : length (soundBytes Dsd crc fs) % 2 ≡ 0 = rw size (even-contents (positions a) (a .channels)) in
+    let even : length (soundBytes Dsd crc fs) % 2 ≡ 0 = rw size (even-contents (areaPositions a) (a .channels)) in
     rw (bytes-leaf, chunk-even (ascii "DSD ") (soundBytes Dsd crc fs) even, size)
 sound-bytes Dst a crc ls fs fits low = dst-bytes crc fs ls stop (sym fits) low ∙ rw (bytes-stop, append-nil)

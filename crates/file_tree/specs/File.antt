@@ -6,7 +6,7 @@ use mathlib.Core.Bool.{cond}
 use mathlib.Core.List.{List, _++_}
 use Prim.Native.Nat.{ℕ, _+_}
 use lib.ListN.{length}
-use Rattle.cursor.specs.Number.{be}
+use Rattle.chunk.specs.Number.{be}
 use Rattle.chunk_names.specs.Name.{ascii}
 use Rattle.tree.specs.Tree.{Chunks, stop, leaf, node, join, each}
 use Rattle.chunk_names.specs.declared.LocalChunk.{LocalChunk}
@@ -19,11 +19,11 @@ use Rattle.build_options.specs.Inputs.{Inputs}
 use Rattle.file_tree.specs.Parts.{Parts, parts, properties, info, hasIndex, indexOf}
 use Rattle.file_tree.specs.Sound.{soundChunk, soundSize}
 use Rattle.caller_chunks.specs.Caller.{callerChunks}
-use Rattle.file_tree.specs.Sides.{named, version, front, back}
+use Rattle.file_tree.specs.Sides.{givenNames, version, front, back}
 
 -- the names of the local chunks that are given
 abbrev pub given : Inputs → List LocalChunk
-given x = named (x .localOrder) (x .localCount)
+given x = givenNames (x .localOrder) (x .localCount)
 
 -- FRM8's data before the sound, and what follows the sound, with a place for the first sound byte
 abbrev pub frontOf : Inputs → ℕ → List ℕ

@@ -1,4 +1,5 @@
 pub mod Parts
 pub mod Sound
 pub mod Sides
+pub mod Steps
 pub mod File

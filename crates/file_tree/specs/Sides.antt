@@ -1,10 +1,10 @@
 -- The local chunks on either side of the sound, and FRM8's data up to the sound and behind it, with `base` for the place of the first sound byte in the
 -- file, from which the index's offsets are counted. Assumes nothing.
-use mathlib.Core.Bool.{Bool, true, false, cond, not, _||_}
+use mathlib.Core.Bool.{Bool, true, false, cond, not}
 use mathlib.Core.List.{List, [], _∷_, _++_, flatMap}
 use Prim.Native.Nat.{ℕ, min}
 use lib.ListN.{take}
-use Rattle.cursor.specs.Number.{be}
+use Rattle.chunk.specs.Number.{be}
 use Rattle.chunk_names.specs.Name.{ascii}
 use Rattle.chunk.specs.Chunk.{chunk}
 use Rattle.tree.specs.Tree.{bytes}
@@ -26,13 +26,8 @@ isSound EditedMasterInfo = false
 isSound Comments = false
 
 -- the names that are given
-abbrev pub named : List LocalChunk → ℕ → List LocalChunk
-named order count = take (min count 5) order
-
--- whether the sound is among them
-unfoldable pub hasSound : List LocalChunk → Bool
-hasSound [] = false
-hasSound (c ∷ cs) = isSound c || hasSound cs
+abbrev pub givenNames : List LocalChunk → ℕ → List LocalChunk
+givenNames order count = take (min count 5) order
 
 -- the names before the sound
 unfoldable pub before : List LocalChunk → List LocalChunk
@@ -43,16 +38,6 @@ before (c ∷ cs) = cond (isSound c) [] (c ∷ before cs)
 unfoldable pub behind : List LocalChunk → List LocalChunk
 behind [] = []
 behind (c ∷ cs) = cond (isSound c) cs (behind cs)
-
--- the names on one side of the sound
-abbrev pub side : Bool → List LocalChunk → List LocalChunk
-side false cs = before cs
-side true cs = behind cs
-
--- whether a name is on that side: the sound was passed before it, or neither passed nor met
-abbrev pub onSide : Bool → Bool → Bool → Bool
-onSide false passed sound = not (passed || sound)
-onSide true passed sound = passed
 
 -- a local chunk other than the sound, written out: nothing if it is not to be written
 unfoldable pub localBytes : Parts → ℕ → LocalChunk → List ℕ

@@ -2,7 +2,7 @@
 -- 37,632 (u32)"). Assumes nothing.
 use Prim.Native.Nat.{ℕ, _*_, _/_, _%_, _^_}
 use mathlib.Core.List.{List, [], _∷_, _++_}
-use Rattle.cursor.specs.Number.{be}
+use Rattle.chunk.specs.Number.{be}
 use Rattle.frame_time.specs.declared.time.FrameTime.{FrameTime}
 
 abbrev pub framesPerSecond : ℕ

@@ -1,8 +1,8 @@
 // The time of a frame, as ABSS and MARK have it.
 ghost use mathlib.Core.Path.{_≡_};
-ghost use Rattle.cursor.specs.Append.{Appended};
+ghost use Rattle.chunk.specs.Append.{Appended};
 ghost use Rattle.frame_time.specs.Time.{timeOf, timeBytes};
-use cursor::Cursor;
+use chunk::Cursor;
 
 const FRAMES_PER_SECOND: u64 = 75;
 

@@ -1,9 +1,10 @@
--- What writing header and trailer leaves in the buffers. Assumes nothing.
+-- A step of a build: what writing header and trailer leaves in the buffers.
+-- Only `fill`, which a build calls inside, promises this; no promise of a released function cites it. Assumes nothing.
 use mathlib.Core.Path.{_≡_}
 use mathlib.Core.List.{List, _++_}
 use Prim.Native.Nat.{ℕ}
-use Rattle.cursor.specs.Append.{overlay}
-use Rattle.cursor.specs.Number.{be}
+use Rattle.chunk.specs.Append.{overlay}
+use Rattle.chunk.specs.Number.{be}
 use Rattle.chunk_names.specs.Name.{ascii}
 use Rattle.build_options.specs.Inputs.{Inputs}
 use Rattle.file_tree.specs.File.{frontOf, backOf}

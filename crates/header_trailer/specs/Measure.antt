@@ -1,7 +1,8 @@
--- What measuring answers. Assumes nothing.
+-- A step of a build: what measuring answers.
+-- Only `measure`, which a build calls inside, promises this; no promise of a released function cites it. Assumes nothing.
 use mathlib.Core.Path.{_≡_}
 use lib.ListN.{length}
-use Rattle.cursor.specs.Append.{moved}
+use Rattle.chunk.specs.Append.{moved}
 use Rattle.build_options.specs.Inputs.{Inputs}
 use Rattle.file_tree.specs.File.{frontOf, backOf, Ordered}
 use Rattle.header_trailer.specs.declared.measure.Lengths.{Lengths}

@@ -3,11 +3,10 @@ ghost use Rattle.build_options.specs.Inputs.{inputsOf};
 ghost use Rattle.header_trailer.specs.Fill.{Filled};
 use build_options::area::Area;
 use build_options::options::Options;
-use chunk::chunks::chunk_head;
+use chunk::Cursor;
 use chunk_names::InfoChunk;
 use chunk_names::LocalChunk;
 use chunk_names::PropertyChunk;
-use cursor::Cursor;
 
 // Header and trailer, where FRM8's data has so many bytes and the sound begins at `base`.
 pub fn fill(
@@ -33,7 +32,7 @@ pub fn fill(
         (now (head .entry)) (now (head .exit)) (now (tail .entry)) (now (tail .exit)) ⌝ }
 {
     let start = Cursor::new();
-    let c = chunk_head(start, head, *b"FRM8", size);
+    let c = start.chunk_head(head, *b"FRM8", size);
     file_layout::sides::front(
         c,
         head,

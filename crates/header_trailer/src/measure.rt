@@ -3,10 +3,10 @@ ghost use Rattle.build_options.specs.Inputs.{inputsOf};
 ghost use Rattle.header_trailer.specs.Measure.{Measured};
 use build_options::area::Area;
 use build_options::options::Options;
+use chunk::Cursor;
 use chunk_names::InfoChunk;
 use chunk_names::LocalChunk;
 use chunk_names::PropertyChunk;
-use cursor::Cursor;
 
 // The lengths of FRM8's data before the sound, and of the trailer.
 pub struct Lengths {

@@ -7,7 +7,7 @@ use native.Mathlib.Omega.{arith}
 use lib.ListN.{length, length-append, length-take, length-drop}
 use Rattle.chunk.specs.Chunk.{pad}
 use Rattle.frame_time.specs.Time.{timeBytes}
-use Rattle.cursor.proofs.NumberLaws.{length-be}
+use Rattle.chunk.proofs.NumberLaws.{length-be}
 use Rattle.chunk.proofs.ChunkLaws.{length-pad, length-counts}
 use Rattle.texts.specs.Extent.{part}
 use Rattle.texts.specs.Text.{textPad}

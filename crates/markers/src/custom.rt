@@ -1,7 +1,7 @@
 // Markers that are given, as rows of words.
 ghost use mathlib.Core.Path.{_≡_};
 ghost use lib.ListN.{length};
-ghost use Rattle.cursor.specs.Append.{Appended};
+ghost use Rattle.chunk.specs.Append.{Appended};
 ghost use Rattle.tree.specs.Tree.{bytes, each};
 ghost use Rattle.markers.specs.Marker.{mark};
 ghost use Rattle.markers.specs.Custom.{kindOf, customOf, customs};
@@ -9,7 +9,7 @@ use crate::marker::Marker;
 use crate::marker::MarkerKind;
 use crate::marker::MarkerText;
 use crate::marker::Marking;
-use cursor::Cursor;
+use chunk::Cursor;
 use texts::extent::Extent;
 
 // The words of a marker's row: frame, kind and flags in one, text start, text length.

@@ -2,15 +2,13 @@
 ghost use mathlib.Core.Path.{_≡_};
 ghost use mathlib.Core.List.{_++_};
 ghost use lib.ListN.{length};
-ghost use Rattle.cursor.specs.Append.{Appended};
-ghost use Rattle.cursor.specs.Number.{be};
+ghost use Rattle.chunk.specs.Append.{Appended};
+ghost use Rattle.chunk.specs.Number.{be};
 ghost use Rattle.tree.specs.Tree.{bytes};
 ghost use Rattle.texts.specs.Extent.{part};
 ghost use Rattle.texts.specs.Text.{textPad};
 ghost use Rattle.markers.specs.Marker.{kindNumber, flagsOf, markerText, frameOf, markHead, mark};
-use chunk::chunks::chunk_head;
-use chunk::chunks::pad;
-use cursor::Cursor;
+use chunk::Cursor;
 use prop_fields::start::Start;
 use texts::extent::Extent;
 use texts::text::TextOptions;
@@ -201,7 +199,7 @@ pub fn mark(c: Cursor, out: &mut [u8], pool: &[u32], raw: &[u8], how: Marking, m
     let start = Cursor::new();
     let end = mark_data(start, &mut empty, count, pool, raw, how, m);
     let size = end.at as u64;
-    let c = chunk_head(c, out, *b"MARK", size);
+    let c = c.chunk_head(out, *b"MARK", size);
     let c = mark_data(c, out, count, pool, raw, how, m);
-    pad(c, out, size)
+    c.pad(out, size)
 }

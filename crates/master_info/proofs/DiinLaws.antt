@@ -6,7 +6,7 @@ use native.Mathlib.Decide.{decLt}
 use native.Mathlib.Omega.{arith}
 use borrow.Author.Tests.{eq-eqb, ne-eqb, lt-ltb, le-ltb, ltb-true}
 use lib.Dec.{eqb, ltb}
-use Rattle.cursor.specs.Append.{moved}
+use Rattle.chunk.specs.Append.{moved}
 
 -- Whether DIIN is written can be told from its measured size, which stops at the largest number.
 pub told-by-size : (on empty : Bool) (n : ℕ)

@@ -15,7 +15,7 @@ use Rattle.chunk_names.specs.declared.InfoChunk.the-variants.{EditedMasterId, M
 use Rattle.tree.proofs.TreeLaws.{bytes-stop, bytes-leaf, bytes-each-cons}
 use Rattle.texts.specs.Extent.{part}
 use Rattle.texts.specs.Text.{textBytes, isWritten}
-use Rattle.diin_texts.specs.DiinText.{diinTextData, givenText, diinText}
+use Rattle.diin_texts.specs.DiinText.{diinTextData, givenTextBytes, diinText}
 use Rattle.diin_texts.specs.declared.diin_text.Text.{Text}
 use Rattle.diin_texts.specs.declared.diin_text.Text.the-variants.{Absent, Given}
 use Rattle.texts.specs.declared.text.TextOptions.{TextOptions}
@@ -41,7 +41,7 @@ module _ (n : ℕ) where
   emid-room raw (Given e) h = rw (bytes-leaf) (chunk-room (ascii "EMID") (part raw e) n refl (le-trans (length-part raw e) h))
 
   text-room : (name : Name) → length name ≡ 4 → (pool : List ℕ) (t : Text) (o : TextOptions) → ShortGiven t → length (diinText name pool t o) ≤ 18 + n
-  unfolding diinText givenText
+  unfolding diinText givenTextBytes
   text-room name four pool Absent o h = omega arith
   text-room name four pool (Given e) o h =
       let text = textBytes (o .rule) (part pool e) in

@@ -1,16 +1,13 @@
 // The edited master information: the chunk DIIN.
 ghost use mathlib.Core.Path.{_≡_};
-ghost use Rattle.cursor.specs.Append.{Appended};
+ghost use Rattle.chunk.specs.Append.{Appended};
 ghost use Rattle.tree.specs.Tree.{bytes, each};
 ghost use Rattle.markers.specs.Marker.{mark};
 ghost use Rattle.master_info.specs.Diin.{marking, chosen, emid, markersOf, infoChunk, infoChunks, diin};
 use crate::pick::ArtistTitle;
 use crate::pick::ArtistTitleSource;
-use chunk::chunks::chunk;
-use chunk::chunks::chunk_head;
-use chunk::chunks::pad;
+use chunk::Cursor;
 use chunk_names::InfoChunk;
-use cursor::Cursor;
 use diin_texts::diin_text::Text;
 use markers::marker::Marking;
 use prop_fields::start::Start;
@@ -43,7 +40,7 @@ fn emid(c: Cursor, out: &mut [u8], raw: &[u8], id: Text) -> Cursor
         Text::Given(e) => {
             let first = e.first(raw.len());
             let end = e.end(raw.len());
-            return chunk(c, out, *b"EMID", &raw[first..end]);
+            return c.chunk(out, *b"EMID", &raw[first..end]);
         }
     }
 }
@@ -178,7 +175,7 @@ pub fn diin(
     if !(info.on & ((info.empty_info | (size != 0)) & (size != u64::MAX))) {
         return c;
     }
-    let c = chunk_head(c, out, *b"DIIN", size);
+    let c = c.chunk_head(out, *b"DIIN", size);
     let c = diin_data(c, out, pool, raw, tracks, custom, order, info);
-    pad(c, out, size)
+    c.pad(out, size)
 }

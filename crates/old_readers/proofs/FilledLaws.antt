@@ -6,8 +6,8 @@ use Prim.Native.Nat.{ℕ, _+_, _-_, _≤_, min}
 use native.Mathlib.Omega.{arith}
 use lib.ListN.{length, take, drop, length-drop, drop-of-length-le, take-append-drop}
 use lib.Seq.{take-all, take-at, length-take-le}
-use Rattle.cursor.specs.Append.{overlay}
-use Rattle.cursor.proofs.AppendLaws.{length-overlay, overlay-out, overlay-append, overlay-room}
+use Rattle.chunk.specs.Append.{overlay}
+use Rattle.chunk.proofs.AppendLaws.{length-overlay, overlay-out, overlay-append, overlay-room}
 use Rattle.window.specs.Window.{shown}
 use Rattle.window.proofs.TestLaws.{lt-or-le}
 use Rattle.tree.specs.Gather.{window}

@@ -11,7 +11,7 @@ use Rattle.prop_fields.specs.declared.compression.Sound.the-variants.{Dsd, Dst}
 use Rattle.sound_reads.specs.declared.place.Positions.{Positions}
 use Rattle.sound_reads.specs.Positions.{between}
 use Rattle.sound_reads.specs.Lent.{neededAt, Plain}
-use Rattle.build_options.specs.Area.{positions}
+use Rattle.build_options.specs.Area.{areaPositions}
 use Rattle.file_tree.specs.Sound.{Fits}
 use Rattle.read_rules.specs.Format.{unitSizes}
 use Rattle.file_read.specs.Read.{Request, neededFor}
@@ -71,7 +71,7 @@ module _ (b : AcceptedBuild) (fs : List Frame) (recorded : Recorded (b .inputs) 
     lent = subst (λ (c : Bool). Lent Dst c fs q room) (sym (given .crc)) lent;
   }
   by-sound Dsd e many lent fits =
-      let count = positions (b .inputs .area) in
+      let count = areaPositions (b .inputs .area) in
       let all : map (λ (c : List ℕ). length c) (contentsOf fs) ≡ replicate count (frameBytes (b .inputs .area .channels)) = map-lengths fs ∙ fits in
       let n : length (contentsOf fs) ≡ count = sym (length-map (contentsOf fs) (λ (c : List ℕ). length c)) ∙ ap length all ∙ length-replicate count _ in
       record { kind = given .kind ∙ e; told = many ∙ sym n; even = rw (given .channels, n) all; lent = lent }

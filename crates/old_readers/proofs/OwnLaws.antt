@@ -5,7 +5,7 @@ use Prim.Native.Nat.{ℕ, zero, suc, _+_, _-_, _*_, _^_, _≤_, _<_}
 use native.Mathlib.Nat.{not-suc-le-zero, le-of-suc-le-suc}
 use native.Mathlib.Omega.{arith}
 use lib.ListN.{length, getD, length-map}
-use Rattle.cursor.specs.Append.{moved}
+use Rattle.chunk.specs.Append.{moved}
 use Rattle.dst.specs.Frame.{Frame}
 use Rattle.dst.specs.Unit.{lengths, sizes}
 use Rattle.dst.specs.Start.{start, sum}

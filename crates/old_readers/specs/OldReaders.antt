@@ -6,7 +6,7 @@ use mathlib.Core.List.{List, [], _∷_, _++_}
 use mathlib.Core.Option.{none, some, IsSome}
 use Prim.Native.Nat.{ℕ, _+_, _-_, _*_, _<_}
 use lib.ListN.{length, take, drop, getD, getElem?}
-use Rattle.cursor.specs.Number.{num}
+use Rattle.chunk.specs.Number.{num}
 use Rattle.chunk_names.specs.Name.{Name, ascii}
 use Rattle.chunk.specs.Chunk.{chunk}
 use Rattle.tree.specs.Reader.{Walked, read}

@@ -12,7 +12,7 @@ use Rattle.prop_fields.specs.declared.compression.Sound.{Sound}
 use Rattle.prop_fields.specs.declared.compression.Sound.the-variants.{Dsd, Dst}
 use Rattle.sound_reads.specs.Positions.{between}
 use Rattle.sound_reads.specs.Lent.{codes, contents, Plain}
-use Rattle.build_options.specs.Area.{positions}
+use Rattle.build_options.specs.Area.{areaPositions}
 use Rattle.build_options.specs.Inputs.{Inputs}
 use Rattle.file_tree.specs.Sound.{Fits}
 use Rattle.build_answer.specs.declared.answer.Answer.the-variants.{Built}
@@ -54,7 +54,7 @@ Lent Dst crc fs q room = (q .frames ≡ codes (between (neededFor q room) fs)) �
 
 -- a read was told the build's lengths; of DSD, its number of positions
 abbrev pub Told : Sound → Inputs → Request → Type 0
-Told Dsd x q = q .format .positions ≡ positions (x .area)
+Told Dsd x q = q .format .positions ≡ areaPositions (x .area)
 Told Dst x q = q .lengths ≡ x .lengths
 
 -- a read of `room` bytes was given what the build was given and made, and lent the needed frames

@@ -5,9 +5,9 @@ use Prim.Native.Nat.{ℕ, _≤_}
 use native.Mathlib.Omega.{arith}
 use lib.ListN.{length, take, length-append}
 use lib.Seq.{length-take-le}
-use Rattle.cursor.specs.Number.{be}
+use Rattle.chunk.specs.Number.{be}
 use Rattle.chunk_names.specs.Name.{Name}
-use Rattle.cursor.proofs.NumberLaws.{length-be}
+use Rattle.chunk.proofs.NumberLaws.{length-be}
 use Rattle.prop_fields.specs.Layout.{channelNames}
 use Rattle.prop.specs.Property.{chnlData}
 use Rattle.prop_fields.specs.declared.layout.Layout.{Layout}

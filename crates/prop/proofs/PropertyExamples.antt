@@ -3,7 +3,7 @@ use mathlib.Core.Path.{_≡_, refl}
 use mathlib.Core.Bool.{Bool, true, false}
 use mathlib.Core.List.{[], _∷_, _++_, flatMap}
 use lib.ListN.{length, take}
-use Rattle.cursor.specs.Number.{be}
+use Rattle.chunk.specs.Number.{be}
 use Rattle.chunk_names.specs.Name.{ascii, propertyOrder}
 use Rattle.chunk.specs.Chunk.{pad, chunk, counts}
 use Rattle.tree.specs.Tree.{bytes, join, each}
@@ -12,7 +12,7 @@ use Rattle.chunk_names.specs.declared.PropertyChunk.the-variants.{SampleRate, C
 use Rattle.prop_fields.specs.Layout.{numbersOf, digit, channelName, channelCount, sixNames, channelNames, speakerCode}
 use Rattle.prop_fields.specs.Start.{isGiven}
 use Rattle.prop_fields.specs.Compression.{compressionData, cmprData}
-use Rattle.prop.specs.Property.{chnlData, idOf, contentOf, isWritten, propertyChunk, propertyChunks, property}
+use Rattle.prop.specs.Property.{chnlData, idOf, contentOf, isPropertyWritten, propertyChunk, propertyChunks, property}
 use Rattle.prop_fields.specs.declared.compression.Sound.the-variants.{Dsd, Dst}
 use Rattle.prop_fields.specs.declared.layout.ChannelNumbers.{ChannelNumbers}
 use Rattle.prop_fields.specs.declared.layout.Layout.the-variants.{Stereo, Unspecified}
@@ -50,7 +50,7 @@ stereo-dsd d1 = record {
 
 -- PROP's data has 88 bytes, with D1 and without, which its size field tells
 data-size : (d1 : Bool) → length (ascii "SND " ++ bytes (propertyChunks propertyOrder (stereo-dsd d1))) ≡ 88
-unfolding stereo-dsd propertyChunk isWritten isGiven idOf contentOf chnlData channelNames channelCount sixNames speakerCode cmprData compressionData counts bytes join each flatMap chunk be pad
+unfolding stereo-dsd propertyChunk isPropertyWritten isGiven idOf contentOf chnlData channelNames channelCount sixNames speakerCode cmprData compressionData counts bytes join each flatMap chunk be pad
 data-size true = refl
 data-size false = refl
 

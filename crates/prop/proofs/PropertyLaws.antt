@@ -5,7 +5,7 @@ use mathlib.Core.List.{List, [], _++_}
 use Prim.Native.Nat.{ℕ, _+_, _≤_}
 use native.Mathlib.Omega.{arith}
 use lib.ListN.{length, length-append}
-use Rattle.cursor.specs.Number.{be}
+use Rattle.chunk.specs.Number.{be}
 use Rattle.chunk_names.specs.Name.{ascii, same}
 use Rattle.chunk.specs.Chunk.{pad, chunk, occupied, counts}
 use Rattle.frame_time.specs.Time.{timeOf, timeBytes}
@@ -14,7 +14,7 @@ use Rattle.tree.specs.Value.{value}
 use Rattle.chunk_names.specs.declared.PropertyChunk.{PropertyChunk}
 use Rattle.chunk_names.specs.declared.PropertyChunk.the-variants.{SampleRate, Channels, CompressionType, AbsoluteStartTime, LoudspeakerConfiguration}
 use Rattle.frame_time.specs.declared.time.FrameTime.{FrameTime}
-use Rattle.cursor.proofs.NumberLaws.{length-be}
+use Rattle.chunk.proofs.NumberLaws.{length-be}
 use Rattle.chunk.proofs.ChunkLaws.{length-chunk}
 use Rattle.chunk.proofs.ListLaws.{flatMap-bound}
 use Rattle.tree.proofs.TreeLaws.{bytes-leaf, bytes-each}
@@ -22,7 +22,7 @@ use Rattle.tree.proofs.ValueLaws.{counted-text}
 use Rattle.prop_fields.specs.Layout.{speakerCode}
 use Rattle.prop_fields.specs.Start.{startFrame}
 use Rattle.prop_fields.specs.Compression.{compressionData, cmprData}
-use Rattle.prop.specs.Property.{sampleRate, idOf, contentOf, isWritten, propertyChunk, propertyChunks}
+use Rattle.prop.specs.Property.{sampleRate, idOf, contentOf, isPropertyWritten, propertyChunk, propertyChunks}
 use Rattle.prop_fields.specs.declared.compression.Sound.{Sound}
 use Rattle.prop_fields.specs.declared.compression.Sound.the-variants.{Dsd, Dst}
 use Rattle.prop.specs.declared.property.Properties.{Properties}
@@ -50,11 +50,11 @@ module _ (p : Properties) where
   content-short LoudspeakerConfiguration = omega (arith, length-be 2 (speakerCode (p .layout)))
 
   -- a chunk of PROP, if it is written
-  pub chunk-written : (part : PropertyChunk) → isWritten p part ≡ true → bytes (propertyChunk p part) ≡ chunk (idOf part) (contentOf p part)
+  pub chunk-written : (part : PropertyChunk) → isPropertyWritten p part ≡ true → bytes (propertyChunk p part) ≡ chunk (idOf part) (contentOf p part)
   unfolding propertyChunk
   chunk-written part h = rw (h, bytes-leaf)
 
-  pub chunk-left-out : (part : PropertyChunk) → isWritten p part ≡ false → bytes (propertyChunk p part) ≡ []
+  pub chunk-left-out : (part : PropertyChunk) → isPropertyWritten p part ≡ false → bytes (propertyChunk p part) ≡ []
   unfolding propertyChunk bytes
   chunk-left-out part h = rw h
 
@@ -68,9 +68,9 @@ module _ (p : Properties) where
 
   chunk-short : (part : PropertyChunk) → length (bytes (propertyChunk p part)) ≤ 38
   unfolding occupied
-  chunk-short part = go (isWritten p part) refl
+  chunk-short part = go (isPropertyWritten p part) refl
     where
-      go : (b : Bool) → isWritten p part ≡ b → length (bytes (propertyChunk p part)) ≤ 38
+      go : (b : Bool) → isPropertyWritten p part ≡ b → length (bytes (propertyChunk p part)) ≤ 38
       go true h = rw (chunk-written part h, length-chunk (idOf part) (contentOf p part) (length-id part)) (omega (arith, content-short part))
       go false h = rw (chunk-left-out part h) (omega arith)
 

@@ -10,7 +10,7 @@ use Rattle.tree.specs.Value.{inner, dsdiff}
 use Rattle.chunk_names.specs.declared.PropertyChunk.{PropertyChunk}
 use Rattle.chunk_names.specs.declared.PropertyChunk.the-variants.{SampleRate, Channels, CompressionType, AbsoluteStartTime, LoudspeakerConfiguration}
 use Rattle.tree.proofs.TreeLaws.{shaped-each, shaped-if}
-use Rattle.prop.specs.Property.{idOf, contentOf, isWritten, propertyChunk, property}
+use Rattle.prop.specs.Property.{idOf, contentOf, isPropertyWritten, propertyChunk, property}
 use Rattle.prop.specs.declared.property.Properties.{Properties}
 
 module _ (known : Name → Name → Bool) where
@@ -24,7 +24,7 @@ module _ (known : Name → Name → Bool) where
 
   chunk-shaped : (p : Properties) (part : PropertyChunk) → Shaped (dsdiff known) (ascii "PROP") (propertyChunk p part)
   unfolding propertyChunk
-  chunk-shaped p part = shaped-if (dsdiff known) (ascii "PROP") (isWritten p part) (leaf (idOf part) (contentOf p part) stop) (id-shaped part (contentOf p part))
+  chunk-shaped p part = shaped-if (dsdiff known) (ascii "PROP") (isPropertyWritten p part) (leaf (idOf part) (contentOf p part) stop) (id-shaped part (contentOf p part))
 
   pub property-shaped : (order : List PropertyChunk) (p : Properties) → Shaped (dsdiff known) (ascii "FRM8") (property order p)
   unfolding property inner same

@@ -4,7 +4,7 @@ use Prim.Native.Nat.{ℕ}
 use mathlib.Core.Bool.{Bool, true, cond}
 use mathlib.Core.List.{List, _++_, flatMap}
 use lib.ListN.{length}
-use Rattle.cursor.specs.Number.{be}
+use Rattle.chunk.specs.Number.{be}
 use Rattle.chunk_names.specs.Name.{Name, ascii}
 use Rattle.frame_time.specs.Time.{timeOf, timeBytes}
 use Rattle.tree.specs.Tree.{Chunks, stop, leaf, node, each}
@@ -52,15 +52,15 @@ contentOf p AbsoluteStartTime = timeBytes (timeOf (startFrame (p .start)))
 contentOf p LoudspeakerConfiguration = be 2 (speakerCode (p .layout))
 
 -- whether it is written
-unfoldable pub isWritten : Properties → PropertyChunk → Bool
-isWritten p SampleRate = true
-isWritten p Channels = true
-isWritten p CompressionType = true
-isWritten p AbsoluteStartTime = isGiven (p .start)
-isWritten p LoudspeakerConfiguration = lscoIsOn p
+unfoldable pub isPropertyWritten : Properties → PropertyChunk → Bool
+isPropertyWritten p SampleRate = true
+isPropertyWritten p Channels = true
+isPropertyWritten p CompressionType = true
+isPropertyWritten p AbsoluteStartTime = isGiven (p .start)
+isPropertyWritten p LoudspeakerConfiguration = lscoIsOn p
 
 unfoldable pub propertyChunk : Properties → PropertyChunk → Chunks
-propertyChunk p part = cond (isWritten p part) (leaf (idOf part) (contentOf p part) stop) stop
+propertyChunk p part = cond (isPropertyWritten p part) (leaf (idOf part) (contentOf p part) stop) stop
 
 -- the chunks of PROP, in the given order
 abbrev pub propertyChunks : List PropertyChunk → Properties → Chunks

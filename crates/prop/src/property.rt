@@ -3,15 +3,13 @@ ghost use mathlib.Core.Path.{_≡_};
 ghost use mathlib.Core.List.{_++_, flatMap};
 ghost use Prim.Native.Nat.{_≤_};
 ghost use lib.ListN.{take};
-ghost use Rattle.cursor.specs.Append.{Appended};
-ghost use Rattle.cursor.specs.Number.{be};
+ghost use Rattle.chunk.specs.Append.{Appended};
+ghost use Rattle.chunk.specs.Number.{be};
 ghost use Rattle.chunk_names.specs.Name.{Name, ascii};
 ghost use Rattle.tree.specs.Tree.{bytes};
-ghost use Rattle.prop.specs.Property.{lscoIsOn, idOf, contentOf, isWritten, propertyChunk, propertyChunks, property};
-use chunk::chunks::chunk_head;
-use chunk::chunks::pad;
+ghost use Rattle.prop.specs.Property.{lscoIsOn, idOf, contentOf, isPropertyWritten, propertyChunk, propertyChunks, property};
+use chunk::Cursor;
 use chunk_names::PropertyChunk;
-use cursor::Cursor;
 use prop_fields::compression::Sound;
 use prop_fields::layout::ChannelNumbers;
 use prop_fields::layout::Layout;
@@ -75,7 +73,7 @@ fn id(part: PropertyChunk) -> [u8; 4]
 }
 
 fn is_written(p: Properties, part: PropertyChunk) -> bool
-    ensures { λ r. ⌜ r ≡ isWritten p part ⌝ }
+    ensures { λ r. ⌜ r ≡ isPropertyWritten p part ⌝ }
 {
     match part {
         PropertyChunk::SampleRate => {
@@ -159,9 +157,9 @@ fn property_chunk(c: Cursor, out: &mut [u8], p: Properties, part: PropertyChunk)
     let end = content(start, &mut empty, p, part);
     let size = end.at as u64;
     let id = id(part);
-    let c = chunk_head(c, out, id, size);
+    let c = c.chunk_head(out, id, size);
     let c = content(c, out, p, part);
-    pad(c, out, size)
+    c.pad(out, size)
 }
 
 // The data of PROP: its form, and its chunks in their order.
@@ -185,7 +183,7 @@ pub fn property(c: Cursor, out: &mut [u8], order: [PropertyChunk; 5], p: Propert
     let start = Cursor::new();
     let end = property_data(start, &mut empty, order, p);
     let size = end.at as u64;
-    let c = chunk_head(c, out, *b"PROP", size);
+    let c = c.chunk_head(out, *b"PROP", size);
     let c = property_data(c, out, order, p);
-    pad(c, out, size)
+    c.pad(out, size)
 }

@@ -1,8 +1,7 @@
 // The compression type: the data of CMPR.
-ghost use Rattle.cursor.specs.Append.{Appended};
+ghost use Rattle.chunk.specs.Append.{Appended};
 ghost use Rattle.prop_fields.specs.Compression.{compressionData, cmprData};
-use chunk::chunks::pad;
-use cursor::Cursor;
+use chunk::Cursor;
 
 // The sound of a file.
 pub enum Sound {
@@ -36,7 +35,7 @@ fn compression_data(c: Cursor, out: &mut [u8], kind: [u8; 4], name: &[u8], d1: b
     let c = c.byte(out, (name.len() % 256) as u8);
     let c = c.bytes(out, name);
     if d1 {
-        return pad(c, out, 5 + name.len() as u64);
+        return c.pad(out, 5 + name.len() as u64);
     }
     c
 }

@@ -10,7 +10,7 @@ use borrow.Author.Tests.{ltb-true, lt-ltb}
 use lib.Dec.{ltb}
 use lib.ListN.{length}
 use Rattle.dst.specs.Start.{start}
-use Rattle.sound_reads.specs.Positions.{touched, range, positions}
+use Rattle.sound_reads.specs.Positions.{touched, range, positionsFor}
 use Rattle.window.proofs.TestLaws.{test-same, lt-or-le}
 use Rattle.read_rules.specs.declared.format.SoundFormat.{SoundFormat}
 use Rattle.read_rules.specs.Format.{unitSizes}
@@ -49,6 +49,6 @@ module _ (ss : List ℕ) (header offset room i : ℕ) where
 pub needed-in-file : (f : SoundFormat) (lengths : List ℕ) (header offset room : ℕ)
     → needed f lengths header offset room
     ≡ range (λ i. ltb (max (header + start (unitSizes f lengths) i) offset) (min (header + start (unitSizes f lengths) (suc i)) (offset + room))) (length (unitSizes f lengths))
-unfolding needed positions
+unfolding needed positionsFor
 needed-in-file f lengths header offset room =
     ap (λ (t : ℕ → Bool). range t (length (unitSizes f lengths))) (fun-ext (touched-in-file (unitSizes f lengths) header offset room))

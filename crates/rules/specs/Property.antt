@@ -18,7 +18,7 @@ use Rattle.build_options.specs.declared.options.Options.{Options}
 use Rattle.build_options.specs.declared.options.Replacement.{Replacement}
 use Rattle.build_options.specs.declared.options.Replacement.the-variants.{Nothing, Byte}
 use Rattle.build_options.specs.declared.options.Settings.{Settings}
-use Rattle.build_options.specs.Area.{positions, unspecified}
+use Rattle.build_options.specs.Area.{areaPositions, unspecified}
 
 -- 24: "Replacement byte outside 0x20 to 0x7E"
 abbrev pub replacementWrong : Replacement → Bool
@@ -37,7 +37,7 @@ lastFrameOfDay = 6_479_999
 
 -- 29: "Start + positions exceeds 6,479,999"; without a start there is nothing to exceed
 unfoldable pub startFault : Area → Start → Verdict
-startFault a start = refuseIf (isGiven start && ltb lastFrameOfDay (startFrame start + positions a)) 29 0
+startFault a start = refuseIf (isGiven start && ltb lastFrameOfDay (startFrame start + areaPositions a)) 29 0
 
 -- 24 to 29; 28: "Property order isn't each name once"
 unfoldable pub propertyFaults : Area → Options → Settings → List PropertyChunk → Verdict

@@ -12,17 +12,17 @@ abbrev pub wordOf : List ℕ → ℕ → ℕ
 wordOf words i = getD words i 0
 
 -- its low byte
-abbrev pub byteOf : List ℕ → ℕ → ℕ
-byteOf words i = wordOf words i % 2 ^ 8
+abbrev pub lowByte : List ℕ → ℕ → ℕ
+lowByte words i = wordOf words i % 2 ^ 8
 
 -- its low 16 bits
 abbrev pub halfOf : List ℕ → ℕ → ℕ
 halfOf words i = wordOf words i % 2 ^ 16
 
 -- the low bytes of n words from word i on
-abbrev pub bytesOf : List ℕ → ℕ → ℕ → List ℕ
-bytesOf words i zero = []
-bytesOf words i (suc n) = byteOf words i ∷ bytesOf words (suc i) n
+abbrev pub lowBytes : List ℕ → ℕ → ℕ → List ℕ
+lowBytes words i zero = []
+lowBytes words i (suc n) = lowByte words i ∷ lowBytes words (suc i) n
 
 -- a switch is on if its word is not 0
 unfoldable pub isSet : List ℕ → ℕ → Bool

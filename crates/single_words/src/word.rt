@@ -1,7 +1,7 @@
 // A word of a list. One past the end is 0; one that stands for a u8 or a u16 counts by its low bits (the crate words refuses lists where either matters); a switch is
 // on if its word is not 0.
 ghost use mathlib.Core.Path.{_≡_};
-ghost use Rattle.single_words.specs.Word.{wordOf, byteOf, halfOf, isSet, textAt};
+ghost use Rattle.single_words.specs.Word.{wordOf, lowByte, halfOf, isSet, textAt};
 use diin_texts::diin_text::Text;
 
 pub fn word(words: &[u32], i: usize) -> u32
@@ -14,7 +14,7 @@ pub fn word(words: &[u32], i: usize) -> u32
 }
 
 pub fn byte(words: &[u32], i: usize) -> u8
-    ensures { λ r. ⌜ r ≡ byteOf (now (words .entry)) i ⌝ }
+    ensures { λ r. ⌜ r ≡ lowByte (now (words .entry)) i ⌝ }
 {
     (word(words, i) % 0x100) as u8
 }

@@ -9,14 +9,14 @@ use borrow.Author.Tests.{lt-ltb, le-ltb}
 use lib.Dec.{ltb}
 use lib.ListN.{length, take, drop, length-append, length-drop, length-map, drop-of-length-le, take-append-drop}
 use lib.Seq.{drop-append-add, drop-nil, take-take, slice}
-use Rattle.cursor.specs.Append.{overlay}
-use Rattle.cursor.proofs.AppendLaws.{length-overlay, overlay-out, overlay-append}
+use Rattle.chunk.specs.Append.{overlay}
+use Rattle.chunk.proofs.AppendLaws.{length-overlay, overlay-out, overlay-append}
 use Rattle.chunk.proofs.ListLaws.{flatMap-append}
 use Rattle.window.specs.declared.window.Window.{Window}
 use Rattle.sound_reads.specs.declared.place.Positions.{Positions}
 use Rattle.dst.specs.Start.{sum, start}
 use Rattle.sound_reads.specs.Place.{placeOf}
-use Rattle.sound_reads.specs.Positions.{positions, between}
+use Rattle.sound_reads.specs.Positions.{positionsFor, between}
 use Rattle.sound_reads.specs.declared.lent.Fill.{Fill}
 use Rattle.sound_reads.specs.declared.lent.Fill.the-variants.{Filled}
 use Rattle.window.specs.Window.{shown, after, Wrote}
@@ -128,7 +128,7 @@ module _ {A : Type 0} (f : A → List ℕ) where
   module _ (xs : List A) (ss : List ℕ) (given : unitSizes xs ≡ ss) (w : Window) (out : List ℕ)
       (cases : Nothing ss (w .skip) (length out - w .at) ⊎ Some ss (w .skip) (length out - w .at)) where
     abbrev pub needed : Positions
-    needed = positions ss (w .skip) (length out - w .at)
+    needed = positionsFor ss (w .skip) (length out - w .at)
 
     abbrev pub begin : Window
     begin = record { at = w .at; skip = placeOf ss (w .skip) .within }
@@ -208,7 +208,7 @@ module _ {A : Type 0} (f : A → List ℕ) where
   -- units that a read does not need make no difference
   pub part-real : (xs ys : List A) (ss : List ℕ) → unitSizes xs ≡ ss → unitSizes ys ≡ ss → (w : Window) (out : List ℕ)
       → Nothing ss (w .skip) (length out - w .at) ⊎ Some ss (w .skip) (length out - w .at)
-      → flatMap f (between (positions ss (w .skip) (length out - w .at)) xs) ≡ flatMap f (between (positions ss (w .skip) (length out - w .at)) ys)
+      → flatMap f (between (positionsFor ss (w .skip) (length out - w .at)) xs) ≡ flatMap f (between (positionsFor ss (w .skip) (length out - w .at)) ys)
       → {last : List ℕ} {r : Fill} → Filling true (flatMap f xs) w out last r → Filling true (flatMap f ys) w out last r
   part-real xs ys ss ex ey w out cases e q =
       let l : length (flatMap f xs) ≡ length (flatMap f ys) = length-joined xs ∙ ap sum (ex ∙ sym ey) ∙ sym (length-joined ys) in

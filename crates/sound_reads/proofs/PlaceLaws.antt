@@ -10,20 +10,21 @@ use borrow.Author.Tests.{lt-ltb, le-ltb}
 use lib.Dec.{ltb}
 use lib.ListN.{length, getD}
 use Rattle.dst.specs.Start.{start}
-use Rattle.sound_reads.specs.Place.{firstOf, positionAt, placeOf, byteAt, Inside}
+use Rattle.sound_reads.specs.Place.{firstWhere, positionAt, placeOf}
+use Rattle.sound_reads.specs.Steps.{byteAt, Inside}
 use Rattle.dst.proofs.StartLaws.{start-zero, start-suc, start-mono}
 use Rattle.window.proofs.TestLaws.{lt-or-le}
 
 -- the first that passes
-pub first-is : (p : ℕ → Bool) (n k : ℕ) → k < n → ((i : ℕ) → i < k → p i ≡ false) → p k ≡ true → firstOf p n ≡ k
-unfolding firstOf
+pub first-is : (p : ℕ → Bool) (n k : ℕ) → k < n → ((i : ℕ) → i < k → p i ≡ false) → p k ≡ true → firstWhere p n ≡ k
+unfolding firstWhere
 first-is p zero k h fails passes = absurd (not-suc-le-zero h)
 first-is p (suc n) zero h fails passes = rw passes
 first-is p (suc n) (suc k) h fails passes =
     rw (fails 0 (omega arith)) (ap suc (first-is (λ i. p (suc i)) n k (le-of-suc-le-suc h) (λ i g. fails (suc i) (omega arith)) passes))
 
-pub first-none : (p : ℕ → Bool) (n : ℕ) → ((i : ℕ) → i < n → p i ≡ false) → firstOf p n ≡ n
-unfolding firstOf
+pub first-none : (p : ℕ → Bool) (n : ℕ) → ((i : ℕ) → i < n → p i ≡ false) → firstWhere p n ≡ n
+unfolding firstWhere
 first-none p zero fails = refl
 first-none p (suc n) fails = rw (fails 0 (omega arith)) (ap suc (first-none (λ i. p (suc i)) n (λ i g. fails (suc i) (omega arith))))
 

@@ -1,4 +1,4 @@
--- The laws of `positions` of specs/Positions.antt: which positions so many bytes from a place on touch. Assumes nothing.
+-- The laws of `positionsFor` of specs/Positions.antt: which positions so many bytes from a place on touch. Assumes nothing.
 use mathlib.Core.Path.{_≡_, refl, sym}
 use mathlib.Core.Logic.{_⊎_, inl, inr, ⊎-elim}
 use mathlib.Core.Bool.{Bool, true, false, _||_}
@@ -11,8 +11,9 @@ use lib.Dec.{eqb, leb}
 use lib.ListN.{length, getD}
 use Rattle.sound_reads.specs.declared.place.Place.{Place}
 use Rattle.dst.specs.Start.{start}
-use Rattle.sound_reads.specs.Place.{firstOf, byteAt}
-use Rattle.sound_reads.specs.Positions.{touched, pastLast, range, positions}
+use Rattle.sound_reads.specs.Place.{firstWhere}
+use Rattle.sound_reads.specs.Steps.{byteAt}
+use Rattle.sound_reads.specs.Positions.{touched, pastLast, range, positionsFor}
 use Rattle.dst.proofs.StartLaws.{start-suc, start-mono}
 use Rattle.window.proofs.TestLaws.{either, neither, lt-or-le}
 use Rattle.sound_reads.proofs.PlaceLaws.{first-is, Found, found}
@@ -32,7 +33,7 @@ unfolding pastLast
 past-none p zero fails = refl
 past-none p (suc n) fails = rw (fails n (omega arith)) (past-none p n (λ i g. fails i (omega arith)))
 
-range-is : (p : ℕ → Bool) (n first last : ℕ) → firstOf p n ≡ first → pastLast p n ≡ suc last → range p n ≡ record { first = first; end = suc last }
+range-is : (p : ℕ → Bool) (n first last : ℕ) → firstWhere p n ≡ first → pastLast p n ≡ suc last → range p n ≡ record { first = first; end = suc last }
 unfolding range
 range-is p n first last f e = rw (e, f, lt-ltb 0 (suc last) (omega arith))
 
@@ -69,8 +70,8 @@ module _ (ss : List ℕ) (from count : ℕ) where
     pub sized : start ss last < start ss (suc last)
     pub full : (from + count ≤ start ss (suc last)) ⊎ (suc last ≡ length ss)
 
-  pub positions-are : {first last : ℕ} → Touch first last → positions ss from count ≡ record { first = first; end = suc last }
-  unfolding positions
+  pub positions-are : {first last : ℕ} → Touch first last → positionsFor ss from count ≡ record { first = first; end = suc last }
+  unfolding positionsFor
   positions-are {first} {last} t =
       let low = t .low in
       let high = t .high in
@@ -90,8 +91,8 @@ module _ (ss : List ℕ) (from count : ℕ) where
   abbrev pub Nothing : Type 0
   Nothing = (count ≡ 0) ⊎ (start ss (length ss) ≤ from)
 
-  pub positions-none : Nothing → positions ss from count ≡ record { first = 0; end = 0 }
-  unfolding positions
+  pub positions-none : Nothing → positionsFor ss from count ≡ record { first = 0; end = 0 }
+  unfolding positionsFor
   positions-none e =
       range-none (touched ss from count) (length ss)
       (past-none (touched ss from count) (length ss)
@@ -104,7 +105,7 @@ module _ (ss : List ℕ) (from count : ℕ) where
     pub touch : Touch first last
 
   -- the needed positions are positions of the sound
-  pub positions-known : Nothing ⊎ Some → (positions ss from count .first ≤ positions ss from count .end) × (positions ss from count .end ≤ length ss)
+  pub positions-known : Nothing ⊎ Some → (positionsFor ss from count .first ≤ positionsFor ss from count .end) × (positionsFor ss from count .end ≤ length ss)
   positions-known =
       ⊎-elim
       (λ e. rw (positions-none e) (omega arith, omega arith))
@@ -156,7 +157,7 @@ module _ (ss : List ℕ) (from count : ℕ) where
 
 -- the test for nothing to be touched: no byte is wanted, or the place is past the last of n positions
 pub none-touched : (ss : List ℕ) (a : Place) (count n : ℕ) → length ss ≡ n → eqb count 0 || leb n (a .position) ≡ true
-    → record { first = 0; end = 0 } ≡ positions ss (byteAt ss a) count
+    → record { first = 0; end = 0 } ≡ positionsFor ss (byteAt ss a) count
 none-touched ss a count n e h =
     sym
     (positions-none ss (byteAt ss a) count

@@ -11,11 +11,11 @@ use Rattle.sound_reads.specs.declared.place.Positions.{Positions}
 use Rattle.window.specs.declared.window.Window.{Window}
 use Rattle.dst.specs.Frame.{Frame, frameBytes}
 use Rattle.dst.specs.Start.{sum}
-use Rattle.sound_reads.specs.Positions.{positions, number, between}
+use Rattle.sound_reads.specs.Positions.{positionsFor, number, between}
 
 -- the positions that a read at the place w needs to fill the rest of its buffer, by the units' sizes
 abbrev pub neededAt : List ℕ → Window → List ℕ → Positions
-neededAt ss w out = positions ss (w .skip) (length out - w .at)
+neededAt ss w out = positionsFor ss (w .skip) (length out - w .at)
 
 -- whether what is lent for positions of these lengths is theirs: the same lengths, as many DST bytes, and n bytes of content for each
 unfoldable pub isLent : ℕ → List ℕ → List ℕ → List ℕ → List ℕ → Bool

@@ -1,4 +1,5 @@
 pub mod Place
+pub mod Steps
 pub mod Positions
 pub mod Lent
 pub mod Fill

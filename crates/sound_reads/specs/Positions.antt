@@ -8,7 +8,7 @@ use lib.ListN.{length}
 use lib.Seq.{slice}
 use Rattle.sound_reads.specs.declared.place.Positions.{Positions}
 use Rattle.dst.specs.Start.{start}
-use Rattle.sound_reads.specs.Place.{firstOf}
+use Rattle.sound_reads.specs.Place.{firstWhere}
 
 -- whether so many bytes from a place on have one of the unit of position i
 unfoldable pub touched : List ℕ → ℕ → ℕ → ℕ → Bool
@@ -21,11 +21,11 @@ pastLast p (suc n) = cond (p n) (suc n) (pastLast p n)
 
 -- the positions below n from the first to the last that pass a test
 unfoldable pub range : (ℕ → Bool) → ℕ → Positions
-range p n = record { first = cond (ltb 0 (pastLast p n)) (firstOf p n) 0; end = pastLast p n }
+range p n = record { first = cond (ltb 0 (pastLast p n)) (firstWhere p n) 0; end = pastLast p n }
 
 -- the positions that a read of so many bytes from a place of the sound on needs, by the units' sizes
-unfoldable pub positions : List ℕ → ℕ → ℕ → Positions
-positions ss from count = range (touched ss from count) (length ss)
+unfoldable pub positionsFor : List ℕ → ℕ → ℕ → Positions
+positionsFor ss from count = range (touched ss from count) (length ss)
 
 -- how many positions
 abbrev pub number : Positions → ℕ

@@ -1,7 +1,7 @@
 -- The starred figures hold, by computation. Assumes nothing.
 use mathlib.Core.Path.{refl}
 use mathlib.Core.List.{flatMap}
-use Rattle.cursor.specs.Number.{be, num}
+use Rattle.chunk.specs.Number.{be, num}
 use Rattle.chunk.specs.Chunk.{pad, chunk, counts, occupied}
 use Rattle.chunk.specs.Rows.{firstRows, rows}
 use Rattle.frame_time.specs.Time.{timeOf}
@@ -18,7 +18,7 @@ use Rattle.dst_index.specs.Index.{entry, index, dsti}
 use Rattle.prop_fields.specs.Layout.{channelCount, sixNames, channelNames, speakerCode}
 use Rattle.prop_fields.specs.Start.{isGiven, startFrame}
 use Rattle.prop_fields.specs.Compression.{compressionData, cmprData}
-use Rattle.prop.specs.Property.{chnlData, idOf, contentOf, isWritten, propertyChunk, property}
+use Rattle.prop.specs.Property.{chnlData, idOf, contentOf, isPropertyWritten, propertyChunk, property}
 use Rattle.master_info.specs.Diin.{hasDiin, diin}
 use Rattle.refusal.specs.Below.{below}
 use Rattle.refusal.specs.Orders.{times, eachOnce}
@@ -42,7 +42,7 @@ use Rattle.file_tree.specs.File.{place, headerOf, trailerOf}
 use Rattle.starred_figures.specs.StarredFigures.{StarredFigures}
 
 pub starred : StarredFigures
-unfolding flatMap be num pad chunk counts occupied firstRows rows timeOf bytes join each bit bits byteOf bytesOf crcOf part printable writtenComments hasComt comt frameBytes unitSize sum rate frte dataSize head entry index dsti channelCount sixNames channelNames speakerCode isGiven startFrame compressionData cmprData chnlData idOf contentOf isWritten propertyChunk property hasDiin diin below times eachOnce lengthsWrong tooLarge outsidePool hasNoScalar noScalars callerFaults commentFaults defaults effective anyTooLarge anyOutside anyNoScalar limitFaults areaFault lengthsFault rangeFault areaFaults sourceFault editedMasterFault trackFaults numbersFault startFault propertyFaults infoFaults lacksAny localFaults givenFaults chunkFaults verdict soundSize soundHead callerChunks before behind localBytes front back place headerOf trailerOf
+unfolding flatMap be num pad chunk counts occupied firstRows rows timeOf bytes join each bit bits byteOf bytesOf crcOf part printable writtenComments hasComt comt frameBytes unitSize sum rate frte dataSize head entry index dsti channelCount sixNames channelNames speakerCode isGiven startFrame compressionData cmprData chnlData idOf contentOf isPropertyWritten propertyChunk property hasDiin diin below times eachOnce lengthsWrong tooLarge outsidePool hasNoScalar noScalars callerFaults commentFaults defaults effective anyTooLarge anyOutside anyNoScalar limitFaults areaFault lengthsFault rangeFault areaFaults sourceFault editedMasterFault trackFaults numbersFault startFault propertyFaults infoFaults lacksAny localFaults givenFaults chunkFaults verdict soundSize soundHead callerChunks before behind localBytes front back place headerOf trailerOf
 starred = record {
   dsd-prop = refl;
   dsd-header = refl;

@@ -4,7 +4,7 @@ use mathlib.Core.Bool.{Bool, true, false}
 use mathlib.Core.List.{List, [], _∷_, _++_}
 use Prim.Native.Nat.{ℕ, _+_, _*_}
 use lib.ListN.{length, take, drop, set}
-use Rattle.cursor.specs.Number.{num}
+use Rattle.chunk.specs.Number.{num}
 use Rattle.chunk_names.specs.Name.{ascii, propertyOrder, infoOrder, localOrder}
 use Rattle.frame_time.specs.Time.{timeOf}
 use Rattle.tree.specs.Tree.{bytes}
@@ -88,8 +88,8 @@ abbrev pub dsd-from : ℕ → Inputs
 dsd-from frame = build Dsd 1 [] (with false (Given frame) ChunkHeader false)
 
 -- two frames of DST, of 3 and 4 bytes: the defaults; `FrameData`; CRC
-abbrev pub dst : Inputs
-dst = build Dst 2 (3 ∷ 4 ∷ []) defaults
+abbrev pub dst-default : Inputs
+dst-default = build Dst 2 (3 ∷ 4 ∷ []) defaults
 
 abbrev pub dst-data : Inputs
 dst-data = build Dst 2 (3 ∷ 4 ∷ []) (with false Absent FrameData false)
@@ -125,12 +125,12 @@ pub record StarredFigures : Type 0 where
   pub d1-form : formSize dsd-d1 ≡ 9_540
   pub d1-only : headerOf dsd-d1 ≡ set (headerOf dsd) 97 20
   -- "Stereo DST, lengths 3 and 4: header 158, DST size 50, FRM8 size 214, file 226"
-  pub dst-header : length (headerOf dst) ≡ 158
-  pub dst-size : dstSize dst ≡ 50
-  pub dst-form : formSize dst ≡ 214
-  pub dst-file : fileSize dst ≡ 226
+  pub dst-header : length (headerOf dst-default) ≡ 158
+  pub dst-size : dstSize dst-default ≡ 50
+  pub dst-form : formSize dst-default ≡ 214
+  pub dst-file : fileSize dst-default ≡ 226
   -- "Its entries: 158 and 174; under `FrameData` 170 and 186; with CRC 158 and 190, file 258"
-  pub entries : offsetAt dst 0 ∷ offsetAt dst 1 ∷ [] ≡ 158 ∷ 174 ∷ []
+  pub entries : offsetAt dst-default 0 ∷ offsetAt dst-default 1 ∷ [] ≡ 158 ∷ 174 ∷ []
   pub entries-data : offsetAt dst-data 0 ∷ offsetAt dst-data 1 ∷ [] ≡ 170 ∷ 186 ∷ []
   pub entries-crc : offsetAt dst-crc 0 ∷ offsetAt dst-crc 1 ∷ [] ≡ 158 ∷ 190 ∷ []
   pub crc-file : fileSize dst-crc ≡ 258

@@ -2,13 +2,12 @@
 ghost use mathlib.Core.Path.{_≡_};
 ghost use mathlib.Core.List.{_++_};
 ghost use lib.ListN.{length};
-ghost use Rattle.cursor.specs.Append.{Appended};
-ghost use Rattle.cursor.specs.Number.{be};
+ghost use Rattle.chunk.specs.Append.{Appended};
+ghost use Rattle.chunk.specs.Number.{be};
 ghost use Rattle.texts.specs.Extent.{part};
 ghost use Rattle.texts.specs.Text.{printable, latin1, passes, substitute, textByte, textBytes, textPad, isWritten};
 use crate::extent::Extent;
-use chunk::chunks::pad;
-use cursor::Cursor;
+use chunk::Cursor;
 
 // What becomes of a value that is no text byte.
 pub enum TextRule {
@@ -103,7 +102,7 @@ pub fn text_pad(c: Cursor, out: &mut [u8], count: u32, options: TextOptions) -> 
     ensures { λ r. ⌜ Appended (now (out .entry)) (c .at) (textPad options count) (now (out .exit)) (r .at) ⌝ }
 {
     if options.text_pad_counted {
-        return pad(c, out, count as u64);
+        return c.pad(out, count as u64);
     }
     c
 }

@@ -1,4 +1,5 @@
--- One pass over spans, span by span: what private functions promise of each step. Assumes nothing.
+-- Steps of one pass over spans.
+-- Only contracts of private functions cite these; no promise of a public function does. Assumes nothing.
 use Prim.Native.Nat.{ℕ}
 use mathlib.Core.Bool.{Bool, cond, not, _&&_}
 use mathlib.Core.List.{List, [], _∷_, _++_}

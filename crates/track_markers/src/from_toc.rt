@@ -1,11 +1,11 @@
 // The markers that are made from tracks.
 ghost use Prim.Native.Nat.{_≤_};
-ghost use Rattle.cursor.specs.Append.{Appended};
+ghost use Rattle.chunk.specs.Append.{Appended};
 ghost use Rattle.tree.specs.Tree.{bytes, each};
 ghost use Rattle.markers.specs.Marker.{mark};
 ghost use Rattle.tracks.specs.Track.{spans};
 ghost use Rattle.track_markers.specs.Program.{sourceMarkers, fromToc};
-use cursor::Cursor;
+use chunk::Cursor;
 use markers::marker::Marking;
 use tracks::order::ProgramOptions;
 use tracks::order::clipped_order;

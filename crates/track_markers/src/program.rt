@@ -1,14 +1,14 @@
 // A program: the markers of the tracks' spans that are left in the range, in one pass over the tracks.
 ghost use mathlib.Core.Path.{_≡_};
 ghost use mathlib.Core.Bool.{cond, _||_};
-ghost use Rattle.cursor.specs.Append.{Appended};
+ghost use Rattle.chunk.specs.Append.{Appended};
 ghost use Rattle.tree.specs.Tree.{bytes, each};
 ghost use Rattle.markers.specs.Marker.{mark};
 ghost use Rattle.tracks.specs.Track.{spans, clipped, hasFrames};
 ghost use Rattle.track_markers.specs.Program.{marker, trackStart, program};
 ghost use Rattle.track_markers.specs.Pass.{stopIf, addedMarkers};
 ghost use Rattle.markers.specs.declared.marker.MarkerText.the-variants.{Empty};
-use cursor::Cursor;
+use chunk::Cursor;
 use markers::marker::Marker;
 use markers::marker::MarkerKind;
 use markers::marker::MarkerText;

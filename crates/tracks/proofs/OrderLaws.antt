@@ -8,7 +8,7 @@ use lib.ListN.{length, take, getD}
 use lib.Dec.{leb}
 use Rattle.chunk.specs.Rows.{rows}
 use Rattle.tracks.specs.Track.{spanOf, spanAt, spans, clip, hasFrames, kept, clipped, inOrder, endAfter, allHaveFrames, exact, some}
-use Rattle.tracks.specs.Order.{orderWith}
+use Rattle.tracks.specs.Steps.{orderWith}
 use Rattle.tracks.specs.declared.track.Span.{Span}
 use Rattle.tracks.specs.declared.order.Order.{Order}
 use Rattle.tracks.proofs.TrackLaws.{spans-next, spans-all, clipped-next}

@@ -1,12 +1,11 @@
 -- Whether tracks give a program (01: "None come out if nothing is left, if the clipped spans are out of order or overlap, if this isn't the play range (0
--- to playtime) and clipping is off, or if it is and the unclipped spans are empty, out of order or overlap"), and what one pass over spans knows. Assumes nothing.
-use mathlib.Core.Bool.{Bool, true, false, cond, _&&_}
+-- to playtime) and clipping is off, or if it is and the unclipped spans are empty, out of order or overlap"). Assumes nothing.
+use mathlib.Core.Bool.{Bool, cond, _&&_}
 use mathlib.Core.List.{List}
-use lib.Dec.{leb, eqb}
+use lib.Dec.{eqb}
 use Rattle.tracks.specs.declared.track.Span.{Span}
-use Rattle.tracks.specs.declared.order.Order.{Order}
 use Rattle.tracks.specs.declared.order.ProgramOptions.{ProgramOptions}
-use Rattle.tracks.specs.Track.{hasFrames, clipped, inOrder, exact, some}
+use Rattle.tracks.specs.Track.{clipped, inOrder, exact, some}
 
 -- whether the range is the play range
 unfoldable pub isPlayRange : ProgramOptions → Bool
@@ -17,10 +16,3 @@ unfoldable pub hasProgram : ProgramOptions → List Span → Bool
 hasProgram p ss =
     let left = clipped (p .first) (p .end) ss in
     some left && (inOrder 0 left && cond (isPlayRange p) (exact ss) (p .«clipped_program»))
-
--- what is known of spans after one more
-unfoldable pub orderWith : Order → Span → Order
-orderWith o s =
-    cond (hasFrames s)
-    (record { left = true; whole = o .whole; ordered = o .ordered && leb (o .end) (s .start); end = s .end })
-    (record { left = o .left; whole = false; ordered = o .ordered; end = o .end })

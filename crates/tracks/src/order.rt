@@ -2,7 +2,8 @@
 ghost use mathlib.Core.Path.{_≡_};
 ghost use mathlib.Core.List.{map};
 ghost use Rattle.tracks.specs.Track.{spans, clip, clipped, inOrder, endAfter, allHaveFrames, exact, some};
-ghost use Rattle.tracks.specs.Order.{orderWith, isPlayRange, hasProgram};
+ghost use Rattle.tracks.specs.Order.{isPlayRange, hasProgram};
+ghost use Rattle.tracks.specs.Steps.{orderWith};
 use crate::track::Span;
 
 // What decides the markers that are made from tracks.

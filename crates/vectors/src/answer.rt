@@ -11,7 +11,7 @@ pub struct Wanted {
     pub at: usize,
 }
 
-pub fn read(file: &[u8], at: usize) -> Wanted {
+pub(crate) fn read(file: &[u8], at: usize) -> Wanted {
     let alone = take(file, at);
     let refusal = take(file, alone.at);
     let first = take(file, refusal.at);
@@ -48,7 +48,7 @@ fn is(given: Answer, number: u64, values: [u64; 3]) -> bool {
 }
 
 // Whether it is as recorded, the buffers having so many bytes: 40 or 41 where they are too few.
-pub fn holds(wanted: Wanted, given: Answer, header: usize, trailer: usize) -> bool {
+pub(crate) fn holds(wanted: Wanted, given: Answer, header: usize, trailer: usize) -> bool {
     let values = wanted.values;
     if wanted.number == 0 {
         if values[0] > header as u64 {

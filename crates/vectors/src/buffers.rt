@@ -4,14 +4,14 @@
 pub const FILL: u8 = 0xA5;
 
 // The first n bytes, none where there are fewer.
-pub fn front<'a>(bytes: &'a [u8], n: usize) -> &'a [u8] {
+pub(crate) fn front<'a>(bytes: &'a [u8], n: usize) -> &'a [u8] {
     if n > bytes.len() {
         return &bytes[..0];
     }
     &bytes[0..n]
 }
 
-pub fn same(a: &[u8], b: &[u8]) -> bool {
+pub(crate) fn same(a: &[u8], b: &[u8]) -> bool {
     if a.len() != b.len() {
         return false;
     }

@@ -216,7 +216,7 @@ fn counted(
 }
 
 // The record at `at`, behind its kind.
-pub fn run(
+pub(crate) fn run(
     file: &[u8],
     at: usize,
     counts: &mut [usize],

@@ -38,7 +38,7 @@ pub const BUILT_KINDS: usize = 76;
 pub const WINDOW_KINDS: usize = 79;
 
 // One more of this kind of sound, where the first kind is counted at k.
-pub fn add_kind(counts: &mut [usize], k: usize, dst: bool, crc: bool) {
+pub(crate) fn add_kind(counts: &mut [usize], k: usize, dst: bool, crc: bool) {
     if !dst {
         add(counts, k, 1);
     } else if crc {
@@ -48,20 +48,20 @@ pub fn add_kind(counts: &mut [usize], k: usize, dst: bool, crc: bool) {
     }
 }
 
-pub fn add(counts: &mut [usize], k: usize, n: usize) {
+pub(crate) fn add(counts: &mut [usize], k: usize, n: usize) {
     if k < counts.len() {
         counts[k] = plus(counts[k], n);
     }
 }
 
 // One more if it is so.
-pub fn add_if(counts: &mut [usize], k: usize, is: bool) {
+pub(crate) fn add_if(counts: &mut [usize], k: usize, is: bool) {
     if is {
         add(counts, k, 1);
     }
 }
 
-pub fn get(counts: &[usize], k: usize) -> usize {
+pub(crate) fn get(counts: &[usize], k: usize) -> usize {
     if k < counts.len() {
         return counts[k];
     }

@@ -30,7 +30,13 @@ fn sides(file: &[u8], at: usize, has_bytes: bool, header: &mut [u8], trailer: &m
     t.at
 }
 
-pub fn read(file: &[u8], at: usize, rows: &[u32], header: &mut [u8], trailer: &mut [u8]) -> File {
+pub(crate) fn read(
+    file: &[u8],
+    at: usize,
+    rows: &[u32],
+    header: &mut [u8],
+    trailer: &mut [u8],
+) -> File {
     let in_header = take(file, at);
     let in_trailer = take(file, in_header.at);
     let has_bytes = take(file, in_trailer.at);

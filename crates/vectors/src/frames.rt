@@ -18,7 +18,7 @@ fn fill(out: &mut [u8], at: usize, start: usize, step: usize, length: usize) {
 }
 
 // The contents of positions, so many bytes each, joined.
-pub fn contents(out: &mut [u8], seed: u32, first: usize, end: usize, length: usize) {
+pub(crate) fn contents(out: &mut [u8], seed: u32, first: usize, end: usize, length: usize) {
     let mut at = 0;
     let mut k = first;
     while k < end {
@@ -30,7 +30,7 @@ pub fn contents(out: &mut [u8], seed: u32, first: usize, end: usize, length: usi
 }
 
 // The DST frames of positions, of these lengths, joined.
-pub fn frames(out: &mut [u8], seed: u32, lengths: &[u32], first: usize, end: usize) {
+pub(crate) fn frames(out: &mut [u8], seed: u32, lengths: &[u32], first: usize, end: usize) {
     let mut at = 0;
     let mut k = first;
     while k < end {

@@ -15,7 +15,7 @@ pub struct Lists {
     pub lengths: usize,
 }
 
-pub fn find(rows: &[u32]) -> Lists {
+pub(crate) fn find(rows: &[u32]) -> Lists {
     let tracks = lists::end(rows, WORDS);
     let markers = lists::end(rows, tracks);
     let comments = lists::end(rows, markers);
@@ -30,7 +30,7 @@ pub fn find(rows: &[u32]) -> Lists {
 }
 
 // Only the first 67 words count as the words of the build.
-pub fn build(
+pub(crate) fn build(
     rows: &[u32],
     raw: &[u8],
     lists: Lists,

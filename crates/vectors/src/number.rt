@@ -14,12 +14,12 @@ pub struct Number {
 
 impl Number {
     // As a place or a count.
-    pub fn count(self) -> usize {
+    pub(crate) fn count(self) -> usize {
         count(self.value)
     }
 }
 
-pub fn count(n: u64) -> usize {
+pub(crate) fn count(n: u64) -> usize {
     if n < PAST as u64 {
         return n as usize;
     }
@@ -27,7 +27,7 @@ pub fn count(n: u64) -> usize {
 }
 
 // The sum of places or counts, PAST where one of them is as much.
-pub fn plus(a: usize, b: usize) -> usize {
+pub(crate) fn plus(a: usize, b: usize) -> usize {
     if a >= PAST {
         return PAST;
     }
@@ -37,7 +37,7 @@ pub fn plus(a: usize, b: usize) -> usize {
     a + b
 }
 
-pub fn take(file: &[u8], at: usize) -> Number {
+pub(crate) fn take(file: &[u8], at: usize) -> Number {
     let mut value = 0;
     let mut i = at;
     while i < file.len() {

@@ -15,13 +15,13 @@ fn put(s: &[u8], n: usize) {
     io::print_decimal(STDOUT_FILENO, n as u64);
 }
 
-pub fn differs(record: usize) {
+pub(crate) fn differs(record: usize) {
     put(b"differs: record ", record);
     text(b"\n");
 }
 
 // Whether the file ends where its records do.
-pub fn end(at: usize, ends: bool) {
+pub(crate) fn end(at: usize, ends: bool) {
     if at >= PAST {
         text(b"the file is cut short\n");
         return;
@@ -73,7 +73,7 @@ fn reads(counts: &[usize]) {
     );
 }
 
-pub fn totals(records: usize, counts: &[usize]) {
+pub(crate) fn totals(records: usize, counts: &[usize]) {
     put(b"records: ", records);
     text(b"\n");
     builds(counts);
@@ -94,7 +94,7 @@ fn refusal(k: usize, times: usize) {
 }
 
 // How often each number was recorded, but for 0.
-pub fn refusals(counts: &[usize]) {
+pub(crate) fn refusals(counts: &[usize]) {
     let mut k = 1;
     while k < counts::BUILT {
         refusal(k, get(counts, k));

@@ -182,7 +182,7 @@ fn run_one(
 }
 
 // The windows of a file.
-pub fn run(
+pub(crate) fn run(
     file: &[u8],
     counts: &mut [usize],
     f: File,

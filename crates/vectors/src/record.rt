@@ -71,7 +71,7 @@ fn of_kind(file: &[u8], counts: &mut [usize]) -> Outcome {
 }
 
 // The record that stands at the beginning of the file, which does not end before it.
-pub fn run(file: &[u8], counts: &mut [usize]) -> Outcome {
+pub(crate) fn run(file: &[u8], counts: &mut [usize]) -> Outcome {
     let o = of_kind(file, counts);
     if o.end <= file.len() {
         return o;

@@ -78,7 +78,7 @@ fn records(fd: i32, counts: &mut [usize]) -> Progress {
     p
 }
 
-pub fn all(fd: i32) {
+pub(crate) fn all(fd: i32) {
     let mut counts = [0usize; counts::ROOM];
     let p = records(fd, &mut counts);
     print::end(p.at, ends(fd, p.at));

@@ -16,7 +16,7 @@ pub struct Window {
     pub at: usize,
 }
 
-pub fn read(file: &[u8], at: usize) -> Window {
+pub(crate) fn read(file: &[u8], at: usize) -> Window {
     let offset = take(file, at);
     let room = take(file, offset.at);
     let first = take(file, room.at);

@@ -11,12 +11,12 @@ use lib.Seq.{take-all, take-add, take-at, drop-at, drop-drop, drop-nil, length-t
 use mathlib.Core.Bool.{true, _||_}
 use borrow.Author.Tests.{eqb-true, leb-true}
 use lib.Dec.{lit<, eqb, leb}
-use Rattle.cursor.specs.Number.{be}
-use Rattle.cursor.proofs.NumberLaws.{length-be}
+use Rattle.chunk.specs.Number.{be}
+use Rattle.chunk.proofs.NumberLaws.{length-be}
 use Rattle.chunk.proofs.ChunkLaws.{pad-even}
-use Rattle.cursor.specs.Append.{overlay, Appended}
+use Rattle.chunk.specs.Append.{overlay, Appended}
 use Rattle.chunk.specs.Chunk.{pad, chunk}
-use Rattle.cursor.proofs.AppendLaws.{length-overlay, overlay-out, overlay-append, overlay-room, copied, _then_ as append}
+use Rattle.chunk.proofs.AppendLaws.{length-overlay, overlay-out, overlay-append, overlay-room, copied, _then_ as append}
 use Rattle.window.specs.declared.window.Window.{Window}
 use Rattle.window.specs.Window.{shown, after, Wrote}
 use Rattle.window.proofs.TestLaws.{either, lt-or-le}

@@ -4,7 +4,7 @@ use mathlib.Core.Path.{_≡_}
 use mathlib.Core.List.{List}
 use Prim.Native.Nat.{ℕ, _+_, _-_, min}
 use lib.ListN.{length, drop}
-use Rattle.cursor.specs.Append.{overlay}
+use Rattle.chunk.specs.Append.{overlay}
 use Rattle.window.specs.declared.window.Window.{Window}
 
 -- the buffer after bytes are put at a read's place, less those that are skipped: as many as fit

@@ -1,5 +1,5 @@
 // A build from words, as Inputs.antt of the crate words lists them, with the rows and pools as they are.
-ghost use Rattle.words.specs.Inputs.{inputsOf};
+ghost use Rattle.words.specs.Inputs.{inputsOfWords};
 ghost use Rattle.words.specs.Border.{wordsFault};
 ghost use Rattle.word_builds.specs.Build.{BuildsUnless};
 use build_answer::answer::Answer;
@@ -18,7 +18,7 @@ pub fn build(
     header: &mut [u8],
     trailer: &mut [u8],
 ) -> Answer
-    ensures { λ r. ⌜ BuildsUnless (wordsFault (now (words .entry))) (inputsOf (now (words .entry)) (now (pool .entry)) (now (raw .entry)) (now (tracks .entry)) (now (markers .entry)) (now (comments .entry)) (now (callers .entry)) (now (lengths .entry)))
+    ensures { λ r. ⌜ BuildsUnless (wordsFault (now (words .entry))) (inputsOfWords (now (words .entry)) (now (pool .entry)) (now (raw .entry)) (now (tracks .entry)) (now (markers .entry)) (now (comments .entry)) (now (callers .entry)) (now (lengths .entry)))
         (now (header .entry)) (now (header .exit)) (now (trailer .entry)) (now (trailer .exit)) r ⌝ }
 {
     let fault = words::border::words_fault(words);

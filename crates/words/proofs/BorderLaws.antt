@@ -13,9 +13,9 @@ use Rattle.meanings.specs.Property.{layoutOf, propertyChunkOf}
 use Rattle.meanings.specs.Diin.{sourceOf, infoChunkOf}
 use Rattle.meanings.specs.Local.{localChunkOf}
 use Rattle.meanings.specs.Options.{switchOf, replacementOf}
-use Rattle.single_words.specs.Word.{wordOf, bytesOf, isSet}
+use Rattle.single_words.specs.Word.{wordOf, lowBytes, isSet}
 use Rattle.words.specs.Border.{wordCount, exceeds, fieldFaults, nameFaults, wordsFault}
-use Rattle.words.specs.Inputs.{areaOf, numbersOf, choicesOf, inputsOf}
+use Rattle.words.specs.Inputs.{areaOf, channelNumbersOf, choicesOf, inputsOfWords}
 use Rattle.words.specs.Exact.{layoutNumber, switchNumber, sourceNumber, wordsOf, EveryWordExact}
 
 most-of : (w : List ℕ) (i n most : ℕ) → exceeds w i n most ≡ false → (k : ℕ) → k < n → wordOf w (i + k) ≤ most
@@ -47,7 +47,7 @@ next f last back e n h = by (eqb n (suc last)) refl
 
 -- so are the names of n words from word i on
 names-back : (f : ℕ → ℕ) (last : ℕ) → last ≤ 255 → TellsBack f last → (w : List ℕ) (i n : ℕ) → ((k : ℕ) → k < n → wordOf w (i + k) ≤ last)
-    → map f (bytesOf w i n) ≡ wordsOf w i n
+    → map f (lowBytes w i n) ≡ wordsOf w i n
 names-back f last small back w i zero h = refl
 names-back f last small back w i (suc n) h =
     let here : wordOf w i ≤ last = subst (λ (j : ℕ). wordOf w j ≤ last) (omega arith) (h 0 (omega arith)) in
@@ -74,7 +74,7 @@ locals : TellsBack (λ n. localRank (localChunkOf n)) 4
 locals = next _ 3 (next _ 2 (to-two _ refl refl refl) refl) refl
 
 pub every-word-exact : EveryWordExact
-unfolding wordsFault fieldFaults nameFaults inputsOf areaOf choicesOf numbersOf
+unfolding wordsFault fieldFaults nameFaults inputsOfWords areaOf choicesOf channelNumbersOf
 every-word-exact w pool raw tracks markers comments callers lengths ok =
     let both = or-accepted (fieldFaults w) (nameFaults w) ok in
     let h2 = after (not (eqb (length w) wordCount)) 2 0 (both .0) in

@@ -1,5 +1,5 @@
 -- WORDS WITHOUT A FAULT ARE TAKEN AS THEY ARE: there are 67, and each field that is narrower than its word, or a name, told back as a number is that word. (All other fields are their
--- words, or a switch's, by `inputsOf`.) Assumes nothing.
+-- words, or a switch's, by `inputsOfWords`.) Assumes nothing.
 use mathlib.Core.Path.{_≡_}
 use mathlib.Core.List.{List, [], _∷_, map}
 use Prim.Native.Nat.{ℕ, zero, suc}
@@ -16,7 +16,7 @@ use Rattle.build_options.specs.Inputs.{Inputs}
 use Rattle.meanings.specs.Options.{replacementOf}
 use Rattle.single_words.specs.Word.{wordOf, isSet}
 use Rattle.words.specs.Border.{wordCount, wordsFault}
-use Rattle.words.specs.Inputs.{inputsOf}
+use Rattle.words.specs.Inputs.{inputsOfWords}
 
 -- the number that stands for a name (of a chunk in an order: its rank)
 abbrev pub layoutNumber : Layout → ℕ
@@ -54,4 +54,4 @@ pub record Exact (w : List ℕ) (x : Inputs) : Type 0 where
   pub local-order : map localRank (x .localOrder) ≡ wordsOf w 61 5
 
 abbrev pub EveryWordExact : Type 0
-EveryWordExact = (w pool raw tracks markers comments callers lengths : List ℕ) → wordsFault w ≡ Accepted → Exact w (inputsOf w pool raw tracks markers comments callers lengths)
+EveryWordExact = (w pool raw tracks markers comments callers lengths : List ℕ) → wordsFault w ≡ Accepted → Exact w (inputsOfWords w pool raw tracks markers comments callers lengths)

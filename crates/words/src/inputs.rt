@@ -1,6 +1,6 @@
 // The area and the options of a build: words 0 to 51.
 ghost use mathlib.Core.Path.{_≡_};
-ghost use Rattle.words.specs.Inputs.{areaOf, numbersOf, choicesOf};
+ghost use Rattle.words.specs.Inputs.{areaOf, channelNumbersOf, choicesOf};
 use build_options::area::Area;
 use build_options::options::Options;
 use master_info::pick::ArtistTitle;
@@ -26,7 +26,7 @@ pub fn area_of(words: &[u32]) -> Area
 }
 
 pub fn channel_numbers(words: &[u32]) -> ChannelNumbers
-    ensures { λ r. ⌜ r ≡ numbersOf (now (words .entry)) ⌝ }
+    ensures { λ r. ⌜ r ≡ channelNumbersOf (now (words .entry)) ⌝ }
 {
     ChannelNumbers {
         given: is_set(words, 6),

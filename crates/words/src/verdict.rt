@@ -3,7 +3,7 @@ ghost use mathlib.Core.Path.{_≡_};
 ghost use Rattle.checks.specs.InputVerdict.{verdict};
 ghost use Rattle.refusal.specs.Verdict.{orElse};
 ghost use Rattle.words.specs.Border.{wordsFault};
-ghost use Rattle.words.specs.Inputs.{inputsOf};
+ghost use Rattle.words.specs.Inputs.{inputsOfWords};
 use refusal::verdict::Verdict;
 
 // What is wrong with the words themselves is refused first.
@@ -17,7 +17,7 @@ pub fn verdict(
     callers: &[u32],
     lengths: &[u32],
 ) -> Verdict
-    ensures { λ r. ⌜ r ≡ orElse (wordsFault (now (words .entry))) (verdict (inputsOf (now (words .entry)) (now (pool .entry)) (now (raw .entry))
+    ensures { λ r. ⌜ r ≡ orElse (wordsFault (now (words .entry))) (verdict (inputsOfWords (now (words .entry)) (now (pool .entry)) (now (raw .entry))
         (now (tracks .entry)) (now (markers .entry)) (now (comments .entry)) (now (callers .entry)) (now (lengths .entry)))) ⌝ }
 {
     let fault = crate::border::words_fault(words);

@@ -6,8 +6,8 @@ use mathlib.Core.Option.{Option, none, some, IsSome}
 use Prim.Native.Nat.{ℕ, _-_, _^_}
 use native.Mathlib.Omega.{arith}
 use lib.ListN.{length, take}
-use Rattle.cursor.specs.Append.{overlay}
-use Rattle.cursor.specs.Number.{be, num}
+use Rattle.chunk.specs.Append.{overlay}
+use Rattle.chunk.specs.Number.{be, num}
 use Rattle.chunk_names.specs.Name.{same, among}
 use Rattle.chunk.specs.Chunk.{pad, chunk, counts, occupied}
 use Rattle.chunk.specs.Rows.{firstRows, rows}
@@ -25,14 +25,14 @@ use Rattle.dst.specs.Start.{sum, start}
 use Rattle.dst.specs.Head.{rate, frte, dataSize, head, dst}
 use Rattle.dst_index.specs.Index.{entry, index, dsti}
 use Rattle.window.specs.Window.{shown}
-use Rattle.sound_reads.specs.Place.{firstOf}
-use Rattle.sound_reads.specs.Positions.{touched, pastLast, range, positions}
+use Rattle.sound_reads.specs.Place.{firstWhere}
+use Rattle.sound_reads.specs.Positions.{touched, pastLast, range, positionsFor}
 use Rattle.sound_reads.specs.Lent.{isLent, lentFrames, zeroFrame, framesWith}
 use Rattle.prop_fields.specs.declared.compression.Sound.the-variants.{Dst}
 use Rattle.prop_fields.specs.Layout.{channelCount, sixNames, channelNames, speakerCode}
 use Rattle.prop_fields.specs.Start.{isGiven, startFrame}
 use Rattle.prop_fields.specs.Compression.{compressionData, cmprData}
-use Rattle.prop.specs.Property.{chnlData, idOf, contentOf, isWritten, propertyChunk, property}
+use Rattle.prop.specs.Property.{chnlData, idOf, contentOf, isPropertyWritten, propertyChunk, property}
 use Rattle.master_info.specs.Diin.{hasDiin, diin}
 use Rattle.refusal.specs.Below.{below, any}
 use Rattle.refusal.proofs.VerdictLaws.{none-so}
@@ -110,7 +110,7 @@ record Computed : Type 0 where
   pub all-names : read (dsdiff worked.all) worked.file ≡ some (record { reports = worked.allReports; end = 258 })
 
 computed : Computed
-unfolding flatMap be num pad chunk counts occupied firstRows rows bytes join each part printable writtenComments hasComt comt frameBytes unitSize sum rate frte dataSize head entry index dsti channelCount sixNames channelNames speakerCode isGiven startFrame compressionData cmprData chnlData idOf contentOf isWritten propertyChunk property hasDiin diin below times eachOnce lengthsWrong tooLarge outsidePool hasNoScalar noScalars callerFaults commentFaults defaults effective anyTooLarge anyOutside anyNoScalar limitFaults areaFault lengthsFault rangeFault areaFaults sourceFault editedMasterFault trackFaults numbersFault startFault propertyFaults infoFaults lacksAny localFaults givenFaults chunkFaults verdict soundSize soundHead callerChunks before behind localBytes front back place headerOf trailerOf roomFaults overlay window bit bits byteOf bytesOf crcOf comtChunk plainBytes unit unitBytes units sound start dst shown firstOf touched pastLast range positions isLent lentFrames zeroFrame framesWith soundBytes soundChunk localChunk formChunks fileOf formatFault needed same missing add gather among inner counted comments value cut report within first next walk-in walk read
+unfolding flatMap be num pad chunk counts occupied firstRows rows bytes join each part printable writtenComments hasComt comt frameBytes unitSize sum rate frte dataSize head entry index dsti channelCount sixNames channelNames speakerCode isGiven startFrame compressionData cmprData chnlData idOf contentOf isPropertyWritten propertyChunk property hasDiin diin below times eachOnce lengthsWrong tooLarge outsidePool hasNoScalar noScalars callerFaults commentFaults defaults effective anyTooLarge anyOutside anyNoScalar limitFaults areaFault lengthsFault rangeFault areaFaults sourceFault editedMasterFault trackFaults numbersFault startFault propertyFaults infoFaults lacksAny localFaults givenFaults chunkFaults verdict soundSize soundHead callerChunks before behind localBytes front back place headerOf trailerOf roomFaults overlay window bit bits byteOf bytesOf crcOf comtChunk plainBytes unit unitBytes units sound start dst shown firstWhere touched pastLast range positionsFor isLent lentFrames zeroFrame framesWith soundBytes soundChunk localChunk formChunks fileOf formatFault needed same missing add gather among inner counted comments value cut report within first next walk-in walk read
 computed = record {
   built = record { orders = record { property = refl; info = refl; local = refl }; answers = refl; header = refl; trailer = refl };
   header = refl;

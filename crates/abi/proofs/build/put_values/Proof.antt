@@ -2,7 +2,7 @@
 use mathlib.Core.Path.{ap, _∙_}
 use borrow.Author.Needs.{needs}
 use denote.Ref.{now}
-use Rattle.cursor.specs.Append.{overlay}
+use Rattle.chunk.specs.Append.{overlay}
 use Rattle.refusal.proofs.Listed.{by-elements}
 use Rattle.abi.proofs.build.put_values.Statement.{statement}
 use Rattle.abi.proofs.build.put_values.Tie as tie

@@ -1,5 +1,5 @@
 -- `comt::comment_head` meets its contract. Assumes nothing.
-use Rattle.cursor.specs.Number.{be}
+use Rattle.chunk.specs.Number.{be}
 use Rattle.comt.specs.Comment.{commentHead}
 use borrow.Author.Needs.{needs}
 use Rattle.comt.proofs.comt.comment_head.Statement.{statement}

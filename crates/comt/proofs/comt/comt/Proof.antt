@@ -6,9 +6,9 @@ use native.Mathlib.Omega.{arith}
 use borrow.Author.Needs.{needs}
 use borrow.Author.Tests.{not-true, not-false}
 use denote.Ref.{now}
-use Rattle.cursor.specs.Number.{be}
+use Rattle.chunk.specs.Number.{be}
 use Rattle.chunk_names.specs.Name.{ascii}
-use Rattle.cursor.proofs.AppendLaws.{none, measured}
+use Rattle.chunk.proofs.AppendLaws.{none, measured}
 use Rattle.chunk.proofs.ChunkLaws.{chunked}
 use Rattle.comt.specs.Comment.{writtenComments, commentBytes, comtData, hasComt, comt}
 use Rattle.comt.proofs.CommentLaws.{words-fit, comt-count, length-comtData, comtData-short}

@@ -1,6 +1,6 @@
 -- `comt::comt_data` meets its contract. Assumes nothing.
 use borrow.Author.Needs.{needs}
-use Rattle.cursor.proofs.AppendLaws.{_then_}
+use Rattle.chunk.proofs.AppendLaws.{_then_}
 use Rattle.comt.proofs.comt.comt_data.Statement.{statement}
 use Rattle.comt.proofs.comt.comt_data.Tie as tie
 

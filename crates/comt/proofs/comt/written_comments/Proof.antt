@@ -6,8 +6,8 @@ use native.Mathlib.Omega.{arith}
 use borrow.Author.Needs.{needs}
 use denote.Ref.{now}
 use lib.ListN.{length, length-append}
-use Rattle.cursor.specs.Append.{Appended}
-use Rattle.cursor.proofs.AppendLaws.{_then_, none}
+use Rattle.chunk.specs.Append.{Appended}
+use Rattle.chunk.proofs.AppendLaws.{_then_, none}
 use Rattle.chunk.proofs.ListLaws.{flatMap-append}
 use Rattle.comt.specs.Comment.{commentBytes}
 use Rattle.comt.proofs.CommentLaws.{firstComments, row-whole, comments-next, comments-all, comments-few}

@@ -1,6 +1,6 @@
 -- `diin_text::diin_text` meets its contract, for a missing and for a given text. Assumes nothing.
 use borrow.Author.Needs.{needs}
-use Rattle.cursor.proofs.AppendLaws.{none}
+use Rattle.chunk.proofs.AppendLaws.{none}
 use Rattle.diin_texts.specs.DiinText.{diinText}
 use Rattle.diin_texts.proofs.diin_text.diin_text.Statement.{statement}
 use Rattle.diin_texts.proofs.diin_text.diin_text.Tie as tie

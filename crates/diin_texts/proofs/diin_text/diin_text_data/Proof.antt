@@ -1,9 +1,9 @@
 -- `diin_text::diin_text_data` meets its contract. Assumes nothing.
-use Rattle.cursor.proofs.AppendLaws.{_then_}
+use Rattle.chunk.proofs.AppendLaws.{_then_}
 use mathlib.Core.List.{_++_}
 use borrow.Author.Needs.{needs}
 use denote.Ref.{now}
-use Rattle.cursor.specs.Number.{be}
+use Rattle.chunk.specs.Number.{be}
 use Rattle.texts.specs.Extent.{part}
 use Rattle.texts.specs.Text.{textBytes}
 use Rattle.diin_texts.proofs.diin_text.diin_text_data.Statement.{statement}

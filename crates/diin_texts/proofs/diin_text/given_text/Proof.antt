@@ -3,9 +3,9 @@ use native.Mathlib.Omega.{arith}
 use borrow.Author.Needs.{needs}
 use denote.Ref.{now}
 use Rattle.chunk.specs.Chunk.{counts}
-use Rattle.cursor.proofs.AppendLaws.{none, measured}
+use Rattle.chunk.proofs.AppendLaws.{none, measured}
 use Rattle.chunk.proofs.ChunkLaws.{chunked}
-use Rattle.diin_texts.specs.DiinText.{givenText, diinTextData}
+use Rattle.diin_texts.specs.DiinText.{givenTextBytes, diinTextData}
 use Rattle.texts.specs.Extent.{part}
 use Rattle.texts.specs.Text.{textBytes}
 use Rattle.texts.proofs.TextLaws.{left-out, written, extent-short}
@@ -14,13 +14,13 @@ use Rattle.diin_texts.proofs.diin_text.given_text.Statement.{statement}
 use Rattle.diin_texts.proofs.diin_text.given_text.Tie as tie
 
 returns : tie.Need-returns
-unfolding givenText
+unfolding givenTextBytes
 returns c =
     let o = c .before .before .before .before .before .args .options in
     rw (left-out o (c .before .before .text-count .ensures) (c .before .writes .ensures) (c .if1 .taken)) (none (search needs) (search needs))
 
 returns-2 : tie.Need-returns-2
-unfolding givenText diinTextData counts
+unfolding givenTextBytes diinTextData counts
 returns-2 c =
     let c₃ = c .before .before in
     let c₂ = c₃ .before .before .before .before in

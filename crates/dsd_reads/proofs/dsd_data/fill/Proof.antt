@@ -8,7 +8,7 @@ use lib.ListN.{length, replicate}
 use lib.Dec.{eqb}
 use borrow.Author.Tests.{eq-eqb, ne-eqb}
 use borrow.Author.Needs.{needs}
-use Rattle.sound_reads.specs.Positions.{positions, number}
+use Rattle.sound_reads.specs.Positions.{positionsFor, number}
 use Rattle.dst.specs.Frame.{frameBytes}
 use Rattle.dst.proofs.FrameLaws.{sound-short}
 use Rattle.dsd_reads.proofs.DsdLaws.{wanted-known, filled-contents}
@@ -24,7 +24,7 @@ short c =
 
 -- the positions that were found are those that the read needs
 wanted : (c : tie.After-touched) → let a = c .before .before .before .before .before .before .args in
-    c .touched .result ≡ positions (replicate (a .n) (frameBytes (a .channels))) (a .w .skip) (length (a .out .now) - a .w .at)
+    c .touched .result ≡ positionsFor (replicate (a .n) (frameBytes (a .channels))) (a .w .skip) (length (a .out .now) - a .w .at)
 wanted c =
     let a = c .before .before .before .before .before .before .args in
     let f = c .before .before .before .frame-bytes in
@@ -38,7 +38,7 @@ known c =
 
 -- what is lent is what those positions have
 is-given : (c : tie.Else1) → let a = c .before .before .before .before .before .before .before .args in
-    frameBytes (a .channels) * number (positions (replicate (a .n) (frameBytes (a .channels))) (a .w .skip) (length (a .out .now) - a .w .at)) ≡ length (a .contents .now)
+    frameBytes (a .channels) * number (positionsFor (replicate (a .n) (frameBytes (a .channels))) (a .w .skip) (length (a .out .now) - a .w .at)) ≡ length (a .contents .now)
 is-given c = rw (← wanted (c .before), ← c .before .before .before .before .frame-bytes .ensures) (c .if1 .left)
 
 locate-requires : tie.Need-locate-requires
@@ -63,7 +63,7 @@ mul-if1 c =
 returns : tie.Need-returns
 returns c =
     let a = c .before .before .before .before .before .before .before .args in
-    let f : eqb (frameBytes (a .channels) * number (positions (replicate (a .n) (frameBytes (a .channels))) (a .w .skip) (length (a .out .now) - a .w .at))) (length (a .contents .now)) ≡ false =
+    let f : eqb (frameBytes (a .channels) * number (positionsFor (replicate (a .n) (frameBytes (a .channels))) (a .w .skip) (length (a .out .now) - a .w .at))) (length (a .contents .now)) ≡ false =
     rw (← wanted (c .before), ← c .before .before .before .before .frame-bytes .ensures) (ne-eqb _ _ (c .if1 .taken)) in
     rw f (record { answer = refl; buffer = refl })
 
@@ -73,7 +73,7 @@ returns-2 c =
     let a = e .before .before .before .before .before .before .before .args in
     let f = e .before .before .before .before .frame-bytes in
     let g = is-given e in
-    let t = eq-eqb (frameBytes (a .channels) * number (positions (replicate (a .n) (frameBytes (a .channels))) (a .w .skip) (length (a .out .now) - a .w .at))) (length (a .contents .now)) g in
+    let t = eq-eqb (frameBytes (a .channels) * number (positionsFor (replicate (a .n) (frameBytes (a .channels))) (a .w .skip) (length (a .out .now) - a .w .at))) (length (a .contents .now)) g in
     rw (t, c .filled .ensures, e .before .before .before .locate .ensures, f .ensures)
     (filled-contents (frameBytes (a .channels)) (a .n) (a .contents .now) (a .w) (a .out .now) g {v = c .before .before .before .put .result}
     (rw (← f .ensures, ← e .before .before .before .locate .ensures) (c .before .before .before .put .ensures)))

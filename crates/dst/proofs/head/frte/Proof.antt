@@ -4,8 +4,8 @@ use lib.ListN.{length, length-append}
 use borrow.Author.Needs.{needs}
 use Rattle.chunk_names.specs.Name.{ascii}
 use Rattle.chunk.specs.Chunk.{pad}
-use Rattle.cursor.proofs.AppendLaws.{_then_, none}
-use Rattle.cursor.proofs.NumberLaws.{length-be}
+use Rattle.chunk.proofs.AppendLaws.{_then_, none}
+use Rattle.chunk.proofs.NumberLaws.{length-be}
 use Rattle.chunk.proofs.ChunkLaws.{chunked}
 use Rattle.dst.specs.Head.{rate, frte}
 use Rattle.dst.proofs.head.frte.Statement.{statement}

@@ -1,7 +1,7 @@
 -- `head::head` meets its contract. Assumes nothing.
 use lib.ListN.{length}
 use borrow.Author.Needs.{needs}
-use Rattle.cursor.proofs.AppendLaws.{_then_}
+use Rattle.chunk.proofs.AppendLaws.{_then_}
 use Rattle.dst.specs.Head.{head, frte, rate}
 use Rattle.dst.proofs.LowLaws.{be-mod}
 use Rattle.dst.proofs.head.head.Statement.{statement}

@@ -1,7 +1,7 @@
 -- `index::dsti` meets its contract. Assumes nothing.
 use borrow.Author.Needs.{needs}
 use denote.Ref.{now}
-use Rattle.cursor.proofs.AppendLaws.{_then_}
+use Rattle.chunk.proofs.AppendLaws.{_then_}
 use Rattle.dst_index.specs.Index.{dsti}
 use Rattle.dst_index.proofs.IndexLaws.{index-past}
 use Rattle.dst_index.proofs.index.dsti.Statement.{statement}

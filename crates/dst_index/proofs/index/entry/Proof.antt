@@ -1,6 +1,6 @@
 -- `index::entry` meets its contract. Assumes nothing.
 use borrow.Author.Needs.{needs}
-use Rattle.cursor.proofs.AppendLaws.{_then_}
+use Rattle.chunk.proofs.AppendLaws.{_then_}
 use Rattle.dst_index.specs.Index.{entry}
 use Rattle.dst_index.proofs.index.entry.Statement.{statement}
 use Rattle.dst_index.proofs.index.entry.Tie as tie

@@ -6,8 +6,8 @@ use native.Mathlib.Omega.{arith}
 use lib.ListN.{length, take}
 use lib.Seq.{take-all}
 use borrow.Author.Needs.{needs}
-use Rattle.cursor.specs.Append.{Appended, moved}
-use Rattle.cursor.proofs.AppendLaws.{_then_, none}
+use Rattle.chunk.specs.Append.{Appended, moved}
+use Rattle.chunk.proofs.AppendLaws.{_then_, none}
 use Rattle.dst.specs.Unit.{sizes}
 use Rattle.dst.specs.Start.{start}
 use Rattle.dst_index.specs.Index.{index}

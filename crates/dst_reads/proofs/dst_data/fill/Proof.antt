@@ -7,7 +7,7 @@ use lib.ListN.{length}
 use borrow.Author.Tests.{not-true, not-false}
 use borrow.Author.Needs.{needs}
 use Rattle.sound_reads.specs.Lent.{isLent}
-use Rattle.sound_reads.specs.Positions.{positions, between}
+use Rattle.sound_reads.specs.Positions.{positionsFor, between}
 use Rattle.dst.specs.Unit.{sizes}
 use Rattle.dst.specs.Frame.{plainBytes}
 use Rattle.dst_reads.proofs.FillLaws.{needed-known, filled-lent}
@@ -23,7 +23,7 @@ touched-requires c κs =
 
 -- the positions that were found are those that the read needs
 wanted : (c : tie.After-touched) → let a = c .before .before .before .before .before .before .before .before .args in
-    c .touched .result ≡ positions (sizes (a .crc) (a .lengths .now)) (a .w .skip) (length (a .out .now) - a .w .at)
+    c .touched .result ≡ positionsFor (sizes (a .crc) (a .lengths .now)) (a .w .skip) (length (a .out .now) - a .w .at)
 wanted c =
     let a = c .before .before .before .before .before .before .before .before .args in
     rw (← byte-at (sizes (a .crc) (a .lengths .now)) (a .w .skip), ← c .before .before .locate .ensures, ← c .before .room .ensures) (c .touched .ensures)
@@ -36,7 +36,7 @@ known c =
 
 -- the test is of what those positions have
 lent : (c : tie.After-is-lent) → let a = c .before .before .before .before .before .before .before .before .before .before .before .args in
-    c .is-lent .result ≡ isLent (plainBytes (a .crc) (a .channels)) (between (positions (sizes (a .crc) (a .lengths .now)) (a .w .skip) (length (a .out .now) - a .w .at)) (a .lengths .now)) (a .lent .now) (a .frames .now) (a .contents .now)
+    c .is-lent .result ≡ isLent (plainBytes (a .crc) (a .channels)) (between (positionsFor (sizes (a .crc) (a .lengths .now)) (a .w .skip) (length (a .out .now) - a .w .at)) (a .lengths .now)) (a .lent .now) (a .frames .now) (a .contents .now)
 lent c =
     let a = c .before .before .before .before .before .before .before .before .before .before .before .args in
     let t = c .before .before .before in
@@ -63,7 +63,7 @@ returns c =
     rw (sym l ∙ not-true _ (c .if1 .taken)) (record { answer = refl; buffer = refl })
 
 is-given : (c : tie.Else1) → let a = c .before .before .before .before .before .before .before .before .before .before .before .before .args in
-    isLent (plainBytes (a .crc) (a .channels)) (between (positions (sizes (a .crc) (a .lengths .now)) (a .w .skip) (length (a .out .now) - a .w .at)) (a .lengths .now)) (a .lent .now) (a .frames .now) (a .contents .now) ≡ true
+    isLent (plainBytes (a .crc) (a .channels)) (between (positionsFor (sizes (a .crc) (a .lengths .now)) (a .w .skip) (length (a .out .now) - a .w .at)) (a .lengths .now)) (a .lent .now) (a .frames .now) (a .contents .now) ≡ true
 is-given c = sym (lent (c .before)) ∙ not-false (c .before .is-lent .result) (c .if1 .left)
 
 units-requires : tie.Need-units-requires

@@ -1,7 +1,7 @@
 -- `caller::name_of` meets its contract. Assumes nothing.
 use native.Mathlib.Nat.{div-div-eq-div-mul}
 use borrow.Author.Needs.{needs}
-use Rattle.cursor.specs.Number.{be}
+use Rattle.chunk.specs.Number.{be}
 use Rattle.faults.proofs.caller.name_of.Statement.{statement}
 use Rattle.faults.proofs.caller.name_of.Tie as tie
 

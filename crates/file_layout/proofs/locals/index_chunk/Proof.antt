@@ -1,6 +1,6 @@
 -- `locals::index_chunk` meets its contract. Assumes nothing.
 use borrow.Author.Needs.{needs}
-use Rattle.cursor.proofs.AppendLaws.{none}
+use Rattle.chunk.proofs.AppendLaws.{none}
 use Rattle.file_layout.proofs.locals.index_chunk.Statement.{statement}
 use Rattle.file_layout.proofs.locals.index_chunk.Tie as tie
 

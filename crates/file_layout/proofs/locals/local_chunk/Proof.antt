@@ -1,6 +1,6 @@
 -- `locals::local_chunk` meets its contract, chunk by chunk. Assumes nothing.
 use borrow.Author.Needs.{needs}
-use Rattle.cursor.proofs.AppendLaws.{none}
+use Rattle.chunk.proofs.AppendLaws.{none}
 use Rattle.file_tree.specs.Sides.{localBytes}
 use Rattle.file_layout.proofs.locals.local_chunk.Statement.{statement}
 use Rattle.file_layout.proofs.locals.local_chunk.Tie as tie

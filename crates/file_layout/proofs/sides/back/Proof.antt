@@ -1,6 +1,6 @@
 -- `sides::back` meets its contract. Assumes nothing.
 use borrow.Author.Needs.{needs}
-use Rattle.cursor.proofs.AppendLaws.{_then_}
+use Rattle.chunk.proofs.AppendLaws.{_then_}
 use Rattle.file_tree.specs.Sides.{back}
 use Rattle.file_layout.proofs.sides.back.Statement.{statement}
 use Rattle.file_layout.proofs.sides.back.Tie as tie

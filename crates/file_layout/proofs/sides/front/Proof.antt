@@ -1,7 +1,7 @@
 -- `sides::front` meets its contract. Assumes nothing.
 use borrow.Author.Needs.{needs}
-use Rattle.cursor.specs.Number.{be}
-use Rattle.cursor.proofs.AppendLaws.{_then_}
+use Rattle.chunk.specs.Number.{be}
+use Rattle.chunk.proofs.AppendLaws.{_then_}
 use Rattle.file_tree.specs.Sides.{front}
 use Rattle.file_layout.proofs.sides.front.Statement.{statement}
 use Rattle.file_layout.proofs.sides.front.Tie as tie

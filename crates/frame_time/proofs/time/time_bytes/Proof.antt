@@ -1,7 +1,7 @@
 -- `time::time_bytes` meets its contract. Assumes nothing.
 use borrow.Author.Needs.{needs}
 use Rattle.frame_time.specs.Time.{timeBytes}
-use Rattle.cursor.proofs.AppendLaws.{_then_}
+use Rattle.chunk.proofs.AppendLaws.{_then_}
 use Rattle.frame_time.proofs.time.time_bytes.Statement.{statement}
 use Rattle.frame_time.proofs.time.time_bytes.Tie as tie
 

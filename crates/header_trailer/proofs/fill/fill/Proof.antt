@@ -1,5 +1,5 @@
 -- `fill::fill` meets its contract. Assumes nothing.
-use Rattle.cursor.proofs.AppendLaws.{_then_}
+use Rattle.chunk.proofs.AppendLaws.{_then_}
 use borrow.Author.Needs.{needs}
 use Rattle.header_trailer.proofs.fill.fill.Statement.{statement}
 use Rattle.header_trailer.proofs.fill.fill.Tie as tie

@@ -4,9 +4,9 @@ use Prim.Native.Nat.{_≤_, _-_, _*_}
 use borrow.Author.Needs.{needs}
 use denote.Ref.{now}
 use lib.ListN.{length, take, drop}
-use Rattle.cursor.specs.Append.{Appended}
+use Rattle.chunk.specs.Append.{Appended}
 use Rattle.tree.specs.Tree.{bytes, each}
-use Rattle.cursor.proofs.AppendLaws.{_then_, none}
+use Rattle.chunk.proofs.AppendLaws.{_then_, none}
 use Rattle.chunk.proofs.RowsLaws.{row-words, mapped-next, mapped-all}
 use Rattle.tree.proofs.TreeLaws.{bytes-each-append, bytes-each-one}
 use Rattle.markers.specs.Marker.{mark}

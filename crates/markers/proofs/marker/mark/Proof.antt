@@ -3,7 +3,7 @@ use native.Mathlib.Omega.{arith}
 use denote.Ref.{now}
 use Rattle.chunk_names.specs.Name.{ascii}
 use Rattle.chunk.specs.Chunk.{counts}
-use Rattle.cursor.proofs.AppendLaws.{measured}
+use Rattle.chunk.proofs.AppendLaws.{measured}
 use Rattle.chunk.proofs.ChunkLaws.{chunked}
 use Rattle.tree.proofs.TreeLaws.{bytes-leaf}
 use Rattle.markers.specs.Marker.{mark, markData, markerText}

@@ -1,5 +1,5 @@
 -- `marker::mark_data` meets its contract. Assumes nothing.
-use Rattle.cursor.proofs.AppendLaws.{_then_}
+use Rattle.chunk.proofs.AppendLaws.{_then_}
 use borrow.Author.Needs.{needs}
 use Rattle.markers.proofs.marker.mark_data.Statement.{statement}
 use Rattle.markers.proofs.marker.mark_data.Tie as tie

@@ -1,6 +1,6 @@
 -- `marker::mark_head` meets its contract. Assumes nothing.
 use Rattle.markers.specs.Marker.{markHead}
-use Rattle.cursor.proofs.AppendLaws.{_then_}
+use Rattle.chunk.proofs.AppendLaws.{_then_}
 use borrow.Author.Needs.{needs}
 use Rattle.markers.proofs.marker.mark_head.Statement.{statement}
 use Rattle.markers.proofs.marker.mark_head.Tie as tie

@@ -1,6 +1,6 @@
 -- `marker::marker_text` meets its contract, for each origin of a text. Assumes nothing.
 use Rattle.markers.specs.Marker.{markerText}
-use Rattle.cursor.proofs.AppendLaws.{none}
+use Rattle.chunk.proofs.AppendLaws.{none}
 use borrow.Author.Needs.{needs}
 use Rattle.markers.proofs.marker.marker_text.Statement.{statement}
 use Rattle.markers.proofs.marker.marker_text.Tie as tie

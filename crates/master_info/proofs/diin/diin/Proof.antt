@@ -2,7 +2,7 @@
 use Rattle.master_info.proofs.DiinLaws.{size-below, told-by-size}
 use mathlib.Core.Path.{_≡_}
 use mathlib.Core.Bool.{not, _&&_, _||_}
-use Rattle.cursor.specs.Append.{moved}
+use Rattle.chunk.specs.Append.{moved}
 use Prim.Native.Nat.{_-_, _^_}
 use lib.Dec.{eqb}
 use native.Mathlib.Omega.{arith}
@@ -12,7 +12,7 @@ use denote.Ref.{now}
 use lib.ListN.{length}
 use Rattle.chunk_names.specs.Name.{ascii}
 use Rattle.tree.specs.Tree.{bytes}
-use Rattle.cursor.proofs.AppendLaws.{none, measured}
+use Rattle.chunk.proofs.AppendLaws.{none, measured}
 use Rattle.chunk.proofs.ChunkLaws.{chunked}
 use Rattle.tree.proofs.TreeLaws.{bytes-stop, bytes-node}
 use Rattle.master_info.specs.Diin.{infoChunks, hasDiin, diin}

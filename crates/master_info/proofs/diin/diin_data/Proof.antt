@@ -5,10 +5,10 @@ use borrow.Author.Needs.{needs}
 use denote.Ref.{now}
 use lib.ListN.{length, take}
 use lib.Seq.{take-all}
-use Rattle.cursor.specs.Append.{Appended}
+use Rattle.chunk.specs.Append.{Appended}
 use Rattle.tree.specs.Tree.{bytes, each}
 use Rattle.chunk_names.specs.declared.InfoChunk.the-variants.{EditedMasterId}
-use Rattle.cursor.proofs.AppendLaws.{_then_, none}
+use Rattle.chunk.proofs.AppendLaws.{_then_, none}
 use Rattle.tree.proofs.TreeLaws.{bytes-each-next}
 use Rattle.master_info.specs.Diin.{infoChunk}
 use Rattle.master_info.proofs.diin.diin_data.Statement.{statement}

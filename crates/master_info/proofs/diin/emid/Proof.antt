@@ -1,6 +1,6 @@
 -- `diin::emid` meets its contract. Assumes nothing.
 use denote.Ref.{now}
-use Rattle.cursor.proofs.AppendLaws.{none}
+use Rattle.chunk.proofs.AppendLaws.{none}
 use Rattle.tree.proofs.TreeLaws.{bytes-stop, bytes-leaf}
 use Rattle.texts.proofs.ExtentLaws.{part-places}
 use Rattle.master_info.specs.Diin.{emid}

@@ -5,9 +5,9 @@ use Prim.Native.Nat.{_≤_, _<_, _-_}
 use native.Mathlib.Numerals.{add-one}
 use borrow.Author.Needs.{needs}
 use lib.ListN.{length, take}
-use Rattle.cursor.specs.Append.{Appended}
+use Rattle.chunk.specs.Append.{Appended}
 use Rattle.chunk_names.specs.Name.{Name}
-use Rattle.cursor.proofs.AppendLaws.{_then_, none}
+use Rattle.chunk.proofs.AppendLaws.{_then_, none}
 use Rattle.chunk.proofs.ListLaws.{flatMap-take}
 use Rattle.prop.proofs.property.chnl_data.Statement.{statement}
 use Rattle.prop.proofs.property.chnl_data.Tie as tie

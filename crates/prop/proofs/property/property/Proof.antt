@@ -1,7 +1,7 @@
 -- `property::property` meets its contract: a chunk whose size is measured. Assumes nothing.
 use Rattle.tree.proofs.TreeLaws.{bytes-node}
 use Rattle.chunk.proofs.ChunkLaws.{chunked}
-use Rattle.cursor.proofs.AppendLaws.{measured}
+use Rattle.chunk.proofs.AppendLaws.{measured}
 use Rattle.tree.specs.Tree.{bytes}
 use Rattle.chunk_names.specs.Name.{ascii}
 use Rattle.prop.proofs.PropertyLaws.{property-short}

@@ -1,6 +1,6 @@
 -- `property::property_chunk` meets its contract: nothing, or a chunk whose size is measured. Assumes nothing.
 use Rattle.chunk.proofs.ChunkLaws.{chunked}
-use Rattle.cursor.proofs.AppendLaws.{none, measured}
+use Rattle.chunk.proofs.AppendLaws.{none, measured}
 use Rattle.prop.proofs.PropertyLaws.{content-short, chunk-written, chunk-left-out}
 use Rattle.prop.specs.Property.{idOf, contentOf}
 use mathlib.Core.Path.{sym, _∙_}

@@ -4,10 +4,10 @@ use Prim.Native.Nat.{_≤_, _<_, _-_}
 use borrow.Author.Needs.{needs}
 use lib.ListN.{length, take}
 use lib.Seq.{take-all}
-use Rattle.cursor.specs.Append.{Appended}
+use Rattle.chunk.specs.Append.{Appended}
 use Rattle.tree.specs.Tree.{bytes, each}
 use Rattle.chunk_names.specs.declared.PropertyChunk.the-variants.{SampleRate}
-use Rattle.cursor.proofs.AppendLaws.{_then_, none}
+use Rattle.chunk.proofs.AppendLaws.{_then_, none}
 use Rattle.tree.proofs.TreeLaws.{bytes-each-next}
 use Rattle.prop.specs.Property.{propertyChunk}
 use Rattle.prop.proofs.property.property_data.Statement.{statement}

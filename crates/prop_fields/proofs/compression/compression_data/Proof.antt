@@ -1,6 +1,6 @@
 -- `compression::compression_data` meets its contract. Assumes nothing.
 use borrow.Author.Needs.{needs}
-use Rattle.cursor.proofs.AppendLaws.{_then_}
+use Rattle.chunk.proofs.AppendLaws.{_then_}
 use Rattle.prop_fields.proofs.CompressionLaws.{compression-d1, compression-no-d1}
 use denote.Ref.{now}
 use Rattle.prop_fields.proofs.compression.compression_data.Statement.{statement}

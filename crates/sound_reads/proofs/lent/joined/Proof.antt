@@ -7,7 +7,7 @@ use native.Mathlib.Omega.{arith}
 use lib.ListN.{length, take, getD}
 use lib.Seq.{take-all}
 use borrow.Author.Needs.{needs}
-use Rattle.cursor.specs.Append.{moved}
+use Rattle.chunk.specs.Append.{moved}
 use Rattle.dst.specs.Start.{sum}
 use Rattle.dst.proofs.StartLaws.{sum-suc}
 use Rattle.dst.proofs.SaturateLaws.{moved-moved}

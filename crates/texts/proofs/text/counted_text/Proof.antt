@@ -1,5 +1,5 @@
 -- `text::counted_text` meets its contract. Assumes nothing.
-use Rattle.cursor.proofs.AppendLaws.{_then_}
+use Rattle.chunk.proofs.AppendLaws.{_then_}
 use borrow.Author.Needs.{needs}
 use Rattle.texts.proofs.text.counted_text.Statement.{statement}
 use Rattle.texts.proofs.text.counted_text.Tie as tie

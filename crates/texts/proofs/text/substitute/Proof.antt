@@ -1,6 +1,6 @@
 -- `text::substitute` meets its contract, rule by rule. Assumes nothing.
 use borrow.Author.Needs.{needs}
-use Rattle.cursor.proofs.AppendLaws.{none}
+use Rattle.chunk.proofs.AppendLaws.{none}
 use Rattle.texts.specs.Text.{substitute}
 use Rattle.texts.proofs.text.substitute.Statement.{statement}
 use Rattle.texts.proofs.text.substitute.Tie as tie

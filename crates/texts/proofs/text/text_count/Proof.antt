@@ -3,7 +3,7 @@ use mathlib.Core.Path.{sym}
 use native.Mathlib.Omega.{arith}
 use borrow.Author.Needs.{needs}
 use denote.Ref.{now}
-use Rattle.cursor.proofs.AppendLaws.{measured}
+use Rattle.chunk.proofs.AppendLaws.{measured}
 use Rattle.texts.proofs.TextLaws.{extent-short}
 use Rattle.texts.proofs.text.text_count.Statement.{statement}
 use Rattle.texts.proofs.text.text_count.Tie as tie

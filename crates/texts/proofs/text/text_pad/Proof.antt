@@ -1,5 +1,5 @@
 -- `text::text_pad` meets its contract. Assumes nothing.
-use Rattle.cursor.proofs.AppendLaws.{none}
+use Rattle.chunk.proofs.AppendLaws.{none}
 use Rattle.texts.specs.Text.{textPad}
 use borrow.Author.Needs.{needs}
 use Rattle.texts.proofs.text.text_pad.Statement.{statement}

@@ -7,8 +7,8 @@ use borrow.Author.Needs.{needs}
 use denote.Ref.{now}
 use lib.ListN.{length, take}
 use lib.Seq.{take-all}
-use Rattle.cursor.specs.Append.{Appended}
-use Rattle.cursor.proofs.AppendLaws.{_then_, none}
+use Rattle.chunk.specs.Append.{Appended}
+use Rattle.chunk.proofs.AppendLaws.{_then_, none}
 use Rattle.chunk.proofs.ListLaws.{flatMap-take}
 use Rattle.texts.specs.Text.{textByte, textBytes}
 use Rattle.texts.proofs.text.text_values.Statement.{statement}

@@ -4,7 +4,7 @@ use borrow.Author.Needs.{needs}
 use borrow.Author.Tests.{not-true, not-false}
 use denote.Ref.{now}
 use Rattle.tree.specs.Tree.{bytes, each}
-use Rattle.cursor.proofs.AppendLaws.{none}
+use Rattle.chunk.proofs.AppendLaws.{none}
 use Rattle.track_markers.proofs.SourceLaws.{source-past, source-row}
 use Rattle.track_markers.proofs.from_toc.from_source.Statement.{statement}
 use Rattle.track_markers.proofs.from_toc.from_source.Tie as tie

@@ -2,7 +2,7 @@
 use borrow.Author.Needs.{needs}
 use borrow.Author.Tests.{eq-eqb, ne-eqb, not-true, not-false}
 use Rattle.tree.specs.Tree.{bytes, each}
-use Rattle.cursor.proofs.AppendLaws.{none}
+use Rattle.chunk.proofs.AppendLaws.{none}
 use Rattle.track_markers.specs.Program.{fromToc}
 use Rattle.track_markers.proofs.from_toc.from_toc.Statement.{statement}
 use Rattle.track_markers.proofs.from_toc.from_toc.Tie as tie

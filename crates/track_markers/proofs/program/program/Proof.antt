@@ -7,9 +7,9 @@ use Prim.Native.Nat.{_≤_, _<_, _-_, _^_}
 use borrow.Author.Needs.{needs}
 use denote.Ref.{now}
 use lib.ListN.{length, take}
-use Rattle.cursor.specs.Append.{Appended}
+use Rattle.chunk.specs.Append.{Appended}
 use Rattle.tree.specs.Tree.{bytes, each}
-use Rattle.cursor.proofs.AppendLaws.{_then_, none}
+use Rattle.chunk.proofs.AppendLaws.{_then_, none}
 use Rattle.tree.proofs.TreeLaws.{bytes-each-cons, bytes-each-append}
 use Rattle.markers.specs.Marker.{mark}
 use Rattle.track_markers.specs.Program.{program}

@@ -1,18 +1,18 @@
 -- `build::build` meets its contract. Assumes nothing.
 use mathlib.Core.Path.{refl}
 use borrow.Author.Needs.{needs}
-use Rattle.words.specs.Inputs.{inputsOf}
+use Rattle.words.specs.Inputs.{inputsOfWords}
 use Rattle.word_builds.proofs.build.build.Statement.{statement}
 use Rattle.word_builds.proofs.build.build.Tie as tie
 
 returns : tie.Need-returns
-unfolding inputsOf
+unfolding inputsOfWords
 returns c =
     rw (← c .before .before .before .words-fault .ensures, c .before .fault .given .1)
     (record { orders = record { property = refl; info = refl; local = refl }; answers = refl; header = refl; trailer = refl })
 
 returns-2 : tie.Need-returns-2
-unfolding inputsOf
+unfolding inputsOfWords
 returns-2 c =
     let built = c .before .before .before .before in
     let word = built .before .before .before in

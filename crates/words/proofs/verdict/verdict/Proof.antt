@@ -1,10 +1,10 @@
 -- `verdict::verdict` meets its contract. Assumes nothing.
-use Rattle.words.specs.Inputs.{inputsOf}
+use Rattle.words.specs.Inputs.{inputsOfWords}
 use Rattle.words.proofs.verdict.verdict.Statement.{statement}
 use Rattle.words.proofs.verdict.verdict.Tie as tie
 
 returns : tie.Need-returns
-unfolding inputsOf
+unfolding inputsOfWords
 returns c =
     let v = c .before in
     let word = v .before in

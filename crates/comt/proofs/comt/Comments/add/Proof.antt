@@ -4,7 +4,7 @@ use mathlib.Core.Path.{refl}
 use native.Mathlib.Omega.{arith}
 use borrow.Author.Needs.{needs}
 use Rattle.chunk.specs.Chunk.{counts}
-use Rattle.cursor.proofs.AppendLaws.{none}
+use Rattle.chunk.proofs.AppendLaws.{none}
 use Rattle.chunk.proofs.ListLaws.{flatMap-one}
 use Rattle.comt.specs.Comment.{asWritten, writtenComment, commentBytes}
 use Rattle.texts.proofs.TextLaws.{left-out, written}

@@ -4,7 +4,7 @@ use mathlib.Core.Bool.{true, false, or-true, or-false}
 use borrow.Author.Needs.{needs}
 use borrow.Author.Tests.{not-true, not-false}
 use Rattle.tree.specs.Tree.{bytes, each}
-use Rattle.cursor.proofs.AppendLaws.{_then_, none}
+use Rattle.chunk.proofs.AppendLaws.{_then_, none}
 use Rattle.tree.proofs.TreeLaws.{bytes-each-one, bytes-each-append}
 use Rattle.tracks.specs.Track.{hasFrames}
 use Rattle.track_markers.specs.Pass.{addedMarkers}

@@ -4,7 +4,7 @@ use mathlib.Core.Bool.{true, false}
 use borrow.Author.Needs.{needs}
 use borrow.Author.Tests.{not-true, not-false}
 use Rattle.tree.specs.Tree.{bytes, each}
-use Rattle.cursor.proofs.AppendLaws.{none}
+use Rattle.chunk.proofs.AppendLaws.{none}
 use Rattle.tree.proofs.TreeLaws.{bytes-each-one}
 use Rattle.track_markers.specs.Pass.{stopIf}
 use Rattle.track_markers.proofs.program.Written.close.Statement.{statement}

@@ -3,7 +3,7 @@ use mathlib.Core.Path.{_≡_}
 use mathlib.Core.Bool.{true, false}
 use borrow.Author.Tests.{not-true, not-false}
 use Rattle.tracks.specs.Track.{hasFrames}
-use Rattle.tracks.specs.Order.{orderWith}
+use Rattle.tracks.specs.Steps.{orderWith}
 use Rattle.tracks.proofs.order.Order.add.Statement.{statement}
 use Rattle.tracks.proofs.order.Order.add.Tie as tie
 
