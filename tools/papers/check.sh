@@ -7,4 +7,6 @@ if ! command -v python3 >/dev/null; then
 fi
 status=0
 python3 tools/papers/promises.py || status=1
+python3 tools/papers/names.py || status=1
+python3 tools/papers/reading.py --check || status=1
 exit $status

@@ -11,9 +11,9 @@ use Rattle.tree.specs.Tree.{bytes}
 use Rattle.checksum.specs.Crc.{bit, bits, byteOf, bytesOf, crcOf}
 use Rattle.dst.specs.Frame.{Frame}
 use Rattle.dst.specs.Unit.{unit, unitBytes, unitSize, sizes}
-use Rattle.dst.specs.Start.{sum}
+use Rattle.dst.specs.Start.{sum, start}
 use Rattle.dst.specs.Head.{rate, frte, dataSize, head}
-use Rattle.dst_index.specs.Index.{shiftOf, entry, index}
+use Rattle.dst_index.specs.Index.{shiftOf, entry, joined, index}
 use Rattle.dst_index.specs.declared.index.DstIndexOffset.the-variants.{ChunkHeader, FrameData}
 
 -- the CRC of nothing, and of the byte 1
@@ -57,28 +57,28 @@ head-spelled = refl
 -- the index after a header of 158 bytes: the offsets of the DSTF chunks, of the frames, and of the DSTF chunks with CRC on
 index-header : index false (moved 158 (shiftOf ChunkHeader)) ls
     ≡ 0 ∷ 0 ∷ 0 ∷ 0 ∷ 0 ∷ 0 ∷ 0 ∷ 158 ∷ 0 ∷ 0 ∷ 0 ∷ 3 ∷ 0 ∷ 0 ∷ 0 ∷ 0 ∷ 0 ∷ 0 ∷ 0 ∷ 174 ∷ 0 ∷ 0 ∷ 0 ∷ 4 ∷ []
-unfolding ls index entry be unitSize occupied
+unfolding ls index joined entry be start sum unitSize occupied
 index-header = refl
 
 index-frame : index false (moved 158 (shiftOf FrameData)) ls
     ≡ 0 ∷ 0 ∷ 0 ∷ 0 ∷ 0 ∷ 0 ∷ 0 ∷ 170 ∷ 0 ∷ 0 ∷ 0 ∷ 3 ∷ 0 ∷ 0 ∷ 0 ∷ 0 ∷ 0 ∷ 0 ∷ 0 ∷ 186 ∷ 0 ∷ 0 ∷ 0 ∷ 4 ∷ []
-unfolding ls index entry be unitSize occupied
+unfolding ls index joined entry be start sum unitSize occupied
 index-frame = refl
 
 index-crc : index true (moved 158 (shiftOf ChunkHeader)) ls
     ≡ 0 ∷ 0 ∷ 0 ∷ 0 ∷ 0 ∷ 0 ∷ 0 ∷ 158 ∷ 0 ∷ 0 ∷ 0 ∷ 3 ∷ 0 ∷ 0 ∷ 0 ∷ 0 ∷ 0 ∷ 0 ∷ 0 ∷ 190 ∷ 0 ∷ 0 ∷ 0 ∷ 4 ∷ []
-unfolding ls index entry be unitSize occupied
+unfolding ls index joined entry be start sum unitSize occupied
 index-crc = refl
 
 -- the file: that header, the units, and DSTI; and the data size of FRM8, whose name and size take 12 bytes
 file-size : 158 + sum (sizes false ls) + occupied (length (index false 158 ls)) ≡ 226
-unfolding ls sum index entry be unitSize occupied
+unfolding ls index joined entry be start sum unitSize occupied
 file-size = refl
 
 form-size : 158 + sum (sizes false ls) + occupied (length (index false 158 ls)) ≡ 12 + 214
-unfolding ls sum index entry be unitSize occupied
+unfolding ls index joined entry be start sum unitSize occupied
 form-size = refl
 
 file-size-crc : 158 + sum (sizes true ls) + occupied (length (index true 158 ls)) ≡ 258
-unfolding ls sum index entry be unitSize occupied
+unfolding ls index joined entry be start sum unitSize occupied
 file-size-crc = refl

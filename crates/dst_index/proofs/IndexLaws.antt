@@ -20,29 +20,57 @@ use Rattle.dst.specs.Frame.{Frame}
 use Rattle.dst.specs.Unit.{lengths, unit, unitBytes, sound, unitSize, sizes}
 use Rattle.dst.specs.Start.{sum, start}
 use Rattle.dst.specs.Head.{head}
-use Rattle.dst_index.specs.Index.{shiftOf, entry, index, dsti, Stands}
+use Rattle.dst_index.specs.Index.{shiftOf, entry, entryOf, joined, index, dsti, Stands}
 use Rattle.dst_index.specs.declared.index.DstIndexOffset.{DstIndexOffset}
 use Rattle.dst.proofs.SaturateLaws.{moved-moved, moved-zero, moved-lt, moved-fits}
 use Rattle.dst.proofs.UnitLaws.{length-unit, length-frte, chunk-even}
 
--- one entry more
-pub index-more : (crc : Bool) (at : ℕ) (ls : List ℕ) (i : ℕ) → at < 2 ^ 64 → i < length ls
-    → index crc at (take (suc i) ls) ≡ index crc at (take i ls) ++ entry (moved at (start (sizes crc ls) i)) (getD ls i 0)
+-- one more
+pub joined-more : (f : ℕ → List ℕ) (n : ℕ) → joined f (suc n) ≡ joined f n ++ f n
+unfolding joined
+joined-more f n = refl
+
+-- the first, and the others
+joined-first : (f : ℕ → List ℕ) (n : ℕ) → joined f (suc n) ≡ f 0 ++ joined (λ k. f (suc k)) n
+unfolding joined
+joined-first f zero = sym (append-nil (f 0))
+joined-first f (suc n) = rw (joined-first f n, append-assoc)
+
+joined-same : (f g : ℕ → List ℕ) (n : ℕ) → ((k : ℕ) → f k ≡ g k) → joined f n ≡ joined g n
+unfolding joined
+joined-same f g zero same = refl
+joined-same f g (suc n) same = rw (joined-same f g n same, same n)
+
+index-none : (crc : Bool) (at : ℕ) → index crc at [] ≡ []
+unfolding index joined
+index-none crc at = refl
+
+-- THE RUNNING SUM: after the first entry stand those of the other frames, whose first offset is where the first unit ends
+pub index-cons : (crc : Bool) (at l : ℕ) (ls : List ℕ) → at < 2 ^ 64
+    → index crc at (l ∷ ls) ≡ entry at l ++ index crc (moved at (unitSize crc l)) ls
 unfolding index start sum
-index-more crc at [] i s h = absurd (not-suc-le-zero h)
-index-more crc at (l ∷ ls) zero s h = append-nil (entry at l) ∙ ap (λ (a : ℕ). entry a l) (sym (moved-zero at s))
-index-more crc at (l ∷ ls) (suc i) s h =
-    rw (index-more crc (moved at (unitSize crc l)) ls i (moved-lt at _) (le-of-suc-le-suc h), moved-moved, append-assoc)
+index-cons crc at l ls s =
+    let behind = moved at (unitSize crc l) in
+    let later : (k : ℕ) → entryOf crc at (l ∷ ls) (suc k) ≡ entryOf crc behind ls k = λ k. rw moved-moved in
+    rw (
+      joined-first (entryOf crc at (l ∷ ls)) (length ls),
+      joined-same (λ k. entryOf crc at (l ∷ ls) (suc k)) (entryOf crc behind ls) (length ls) later,
+      moved-zero at s,
+    )
 
 pub length-entry : (offset l : ℕ) → length (entry offset l) ≡ 12
 unfolding entry
 length-entry offset l = simp (length-append, length-be)
 
+length-joined : (f : ℕ → List ℕ) (n : ℕ) → ((k : ℕ) → length (f k) ≡ 12) → length (joined f n) ≡ 12 * n
+unfolding joined
+length-joined f zero long = refl
+length-joined f (suc n) long = rw (length-append, length-joined f n long, long n) (omega arith)
+
 -- an entry has 12 bytes, whatever its offset
 pub length-index : (crc : Bool) (at : ℕ) (ls : List ℕ) → length (index crc at ls) ≡ 12 * length ls
 unfolding index
-length-index crc at [] = refl
-length-index crc at (l ∷ ls) = rw (length-append, length-entry at l, length-index crc (moved at (unitSize crc l)) ls) (omega arith)
+length-index crc at ls = length-joined (entryOf crc at ls) (length ls) (λ k. length-entry (moved at (start (sizes crc ls) k)) (getD ls k 0))
 
 -- DSTI with 2 ^ 60 entries at the most is a chunk of the file's tree
 pub dsti-bytes : (crc : Bool) (at : ℕ) (ls : List ℕ) → length ls ≤ 2 ^ 60 → dsti crc at ls ≡ bytes (leaf (ascii "DSTI") (index crc at ls) stop)
@@ -79,20 +107,26 @@ after-entry x y rest i =
 
 index-from : (crc : Bool) (at : ℕ) (ls : List ℕ) (i : ℕ) → at < 2 ^ 64
     → drop (12 * i) (index crc at ls) ≡ index crc (moved at (start (sizes crc ls) i)) (drop i ls)
-unfolding index start sum
+unfolding start sum
 index-from crc at ls zero s = ap (λ (a : ℕ). index crc a ls) (sym (moved-zero at s))
-index-from crc at [] (suc i) s = drop-nil (12 * suc i)
+index-from crc at [] (suc i) s = ap (drop (12 * suc i)) (index-none crc at) ∙ drop-nil (12 * suc i) ∙ sym (index-none crc _)
 index-from crc at (l ∷ ls) (suc i) s =
-    after-entry at l _ i ∙ index-from crc (moved at (unitSize crc l)) ls i (moved-lt at _) ∙ rw moved-moved
+    ap (drop (12 * suc i)) (index-cons crc at l ls s)
+    ∙ after-entry at l _ i
+    ∙ index-from crc (moved at (unitSize crc l)) ls i (moved-lt at _)
+    ∙ rw moved-moved
 
 -- from entry i on
 entry-first : (crc : Bool) (at : ℕ) (ls : List ℕ) (i : ℕ) → at < 2 ^ 64 → i < length ls
     → let offset = moved at (start (sizes crc ls) i) in
     drop (12 * i) (index crc at ls) ≡ be 8 offset ++ (be 4 (getD ls i 0) ++ index crc (moved offset (unitSize crc (getD ls i 0))) (drop (suc i) ls))
-unfolding index entry
+unfolding entry
 entry-first crc at ls i s h =
     let offset = moved at (start (sizes crc ls) i) in
-    index-from crc at ls i s ∙ ap (index crc offset) (drop-cons ls i 0 h) ∙ append-assoc (be 8 offset) (be 4 (getD ls i 0)) _
+    index-from crc at ls i s
+    ∙ ap (index crc offset) (drop-cons ls i 0 h)
+    ∙ index-cons crc offset (getD ls i 0) (drop (suc i) ls) (moved-lt at _)
+    ∙ append-assoc (be 8 offset) (be 4 (getD ls i 0)) _
 
 -- ENTRY i holds where unit i starts, and its frame's length.
 pub entry-at : (crc : Bool) (at : ℕ) (ls : List ℕ) (i : ℕ) → i < length ls → at + start (sizes crc ls) i < 2 ^ 64

@@ -1,14 +1,15 @@
 -- The index of the frames (01: "DSTI holds per frame an 8-byte offset of the DSTF header (12 more under `FrameData`) and a 4-byte length").
 -- Assumes nothing.
-use Prim.Native.Nat.{ℕ, _*_}
+use Prim.Native.Nat.{ℕ, zero, suc, _*_}
 use mathlib.Core.Path.{_≡_}
 use mathlib.Core.Bool.{Bool}
-use mathlib.Core.List.{List, [], _∷_, _++_}
-use lib.ListN.{length, take, drop}
+use mathlib.Core.List.{List, [], _++_}
+use lib.ListN.{length, take, drop, getD}
 use Rattle.chunk.specs.Append.{moved}
 use Rattle.chunk.specs.Number.{be}
 use Rattle.chunk_names.specs.Name.{ascii}
-use Rattle.dst.specs.Unit.{unitSize}
+use Rattle.dst.specs.Unit.{sizes}
+use Rattle.dst.specs.Start.{start}
 use Rattle.dst_index.specs.declared.index.DstIndexOffset.{DstIndexOffset}
 use Rattle.dst_index.specs.declared.index.DstIndexOffset.the-variants.{ChunkHeader, FrameData}
 
@@ -21,10 +22,18 @@ shiftOf FrameData = 12
 unfoldable pub entry : ℕ → ℕ → List ℕ
 entry offset l = be 8 offset ++ be 4 l
 
--- the entries of frames with these lengths, of which the first has this offset (offsets stop at the largest u64)
+-- entry i: the first entry's offset and the sizes of the units before frame i, at most the largest u64; and frame i's length
+abbrev pub entryOf : Bool → ℕ → List ℕ → ℕ → List ℕ
+entryOf crc at lengths i = entry (moved at (start (sizes crc lengths) i)) (getD lengths i 0)
+
+-- f 0, f 1, .. below n, joined
+unfoldable pub joined : (ℕ → List ℕ) → ℕ → List ℕ
+joined f zero = []
+joined f (suc n) = joined f n ++ f n
+
+-- the entries of frames with these lengths, of which the first has this offset
 unfoldable pub index : Bool → ℕ → List ℕ → List ℕ
-index crc at [] = []
-index crc at (l ∷ ls) = entry at l ++ index crc (moved at (unitSize crc l)) ls
+index crc at lengths = joined (entryOf crc at lengths) (length lengths)
 
 -- DSTI, of entries whose first has this offset: its size, at most the largest u64 (which says that it does not fit), and the entries
 unfoldable pub dsti : Bool → ℕ → List ℕ → List ℕ

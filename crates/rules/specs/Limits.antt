@@ -37,14 +37,14 @@ module _ (o : Options) where
   abbrev tags : List ℕ
   tags = tagRows (o .album) (o .track)
 
-  abbrev emid : List ℕ
-  emid = idRow (o .«edited_master_id»)
+  abbrev emidRow : List ℕ
+  emidRow = idRow (o .«edited_master_id»)
 
   -- 1
   unfoldable pub anyTooLarge : List ℕ → List ℕ → List ℕ → List ℕ → Bool
   anyTooLarge tracks markers comments callers =
       tooLarge Text tags anyNumber longestText
-      || (tooLarge Text emid anyNumber longestText
+      || (tooLarge Text emidRow anyNumber longestText
       || (tooLarge Track tracks mostTracks longestText
       || ((o .«custom_markers» && tooLarge Marker markers mostMarkers longestText)
       || (tooLarge Comment comments anyNumber longestText || tooLarge Caller callers mostCallerChunks longestCallerChunk))))
@@ -53,7 +53,7 @@ module _ (o : Options) where
   unfoldable pub anyOutside : ℕ → ℕ → List ℕ → List ℕ → List ℕ → List ℕ → Bool
   anyOutside pool raw tracks markers comments callers =
       outsidePool Text tags pool
-      || (outsidePool Text emid raw
+      || (outsidePool Text emidRow raw
       || (outsidePool Track tracks pool
       || ((o .«custom_markers» && outsidePool Marker markers raw) || (outsidePool Comment comments pool || outsidePool Caller callers raw))))
 

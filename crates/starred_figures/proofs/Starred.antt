@@ -12,9 +12,9 @@ use Rattle.texts.specs.Text.{printable}
 use Rattle.comt.specs.Comment.{writtenComments, hasComt, comt}
 use Rattle.dst.specs.Frame.{frameBytes}
 use Rattle.dst.specs.Unit.{unitSize}
-use Rattle.dst.specs.Start.{sum}
+use Rattle.dst.specs.Start.{sum, start}
 use Rattle.dst.specs.Head.{rate, frte, dataSize, head}
-use Rattle.dst_index.specs.Index.{entry, index, dsti}
+use Rattle.dst_index.specs.Index.{entry, joined, index, dsti}
 use Rattle.prop_fields.specs.Layout.{channelCount, sixNames, channelNames, speakerCode}
 use Rattle.prop_fields.specs.Start.{isGiven, startFrame}
 use Rattle.prop_fields.specs.Compression.{compressionData, cmprData}
@@ -42,7 +42,7 @@ use Rattle.file_tree.specs.File.{place, headerOf, trailerOf}
 use Rattle.starred_figures.specs.StarredFigures.{StarredFigures}
 
 pub starred : StarredFigures
-unfolding flatMap be num pad chunk counts occupied firstRows rows timeOf bytes join each bit bits byteOf bytesOf crcOf part printable writtenComments hasComt comt frameBytes unitSize sum rate frte dataSize head entry index dsti channelCount sixNames channelNames speakerCode isGiven startFrame compressionData cmprData chnlData idOf contentOf isPropertyWritten propertyChunk property hasDiin diin below times eachOnce lengthsWrong tooLarge outsidePool hasNoScalar noScalars callerFaults commentFaults defaults effective anyTooLarge anyOutside anyNoScalar limitFaults areaFault lengthsFault rangeFault areaFaults sourceFault editedMasterFault trackFaults numbersFault startFault propertyFaults infoFaults lacksAny localFaults givenFaults chunkFaults verdict soundSize soundHead callerChunks before behind localBytes front back place headerOf trailerOf
+unfolding flatMap be num pad chunk counts occupied firstRows rows timeOf bytes join each bit bits byteOf bytesOf crcOf part printable writtenComments hasComt comt frameBytes unitSize sum start rate frte dataSize head entry joined index dsti channelCount sixNames channelNames speakerCode isGiven startFrame compressionData cmprData chnlData idOf contentOf isPropertyWritten propertyChunk property hasDiin diin below times eachOnce lengthsWrong tooLarge outsidePool hasNoScalar noScalars callerFaults commentFaults defaults effective anyTooLarge anyOutside anyNoScalar limitFaults areaFault lengthsFault rangeFault areaFaults sourceFault editedMasterFault trackFaults numbersFault startFault propertyFaults infoFaults lacksAny localFaults givenFaults chunkFaults verdict soundSize soundHead callerChunks before behind localBytes front back place headerOf trailerOf
 starred = record {
   dsd-prop = refl;
   dsd-header = refl;

@@ -23,7 +23,7 @@ use Rattle.dst.specs.Frame.{frameBytes, plainBytes}
 use Rattle.dst.specs.Unit.{unit, unitBytes, units, sound, unitSize}
 use Rattle.dst.specs.Start.{sum, start}
 use Rattle.dst.specs.Head.{rate, frte, dataSize, head, dst}
-use Rattle.dst_index.specs.Index.{entry, index, dsti}
+use Rattle.dst_index.specs.Index.{entry, joined, index, dsti}
 use Rattle.window.specs.Window.{shown}
 use Rattle.sound_reads.specs.Place.{firstWhere}
 use Rattle.sound_reads.specs.Positions.{touched, pastLast, range, positionsFor}
@@ -110,7 +110,7 @@ record Computed : Type 0 where
   pub all-names : read (dsdiff worked.all) worked.file ≡ some (record { reports = worked.allReports; end = 258 })
 
 computed : Computed
-unfolding flatMap be num pad chunk counts occupied firstRows rows bytes join each part printable writtenComments hasComt comt frameBytes unitSize sum rate frte dataSize head entry index dsti channelCount sixNames channelNames speakerCode isGiven startFrame compressionData cmprData chnlData idOf contentOf isPropertyWritten propertyChunk property hasDiin diin below times eachOnce lengthsWrong tooLarge outsidePool hasNoScalar noScalars callerFaults commentFaults defaults effective anyTooLarge anyOutside anyNoScalar limitFaults areaFault lengthsFault rangeFault areaFaults sourceFault editedMasterFault trackFaults numbersFault startFault propertyFaults infoFaults lacksAny localFaults givenFaults chunkFaults verdict soundSize soundHead callerChunks before behind localBytes front back place headerOf trailerOf roomFaults overlay window bit bits byteOf bytesOf crcOf comtChunk plainBytes unit unitBytes units sound start dst shown firstWhere touched pastLast range positionsFor isLent lentFrames zeroFrame framesWith soundBytes soundChunk localChunk formChunks fileOf formatFault needed same missing add gather among inner counted comments value cut report within first next walk-in walk read
+unfolding flatMap be num pad chunk counts occupied firstRows rows bytes join each part printable writtenComments hasComt comt frameBytes unitSize sum rate frte dataSize head entry joined index dsti channelCount sixNames channelNames speakerCode isGiven startFrame compressionData cmprData chnlData idOf contentOf isPropertyWritten propertyChunk property hasDiin diin below times eachOnce lengthsWrong tooLarge outsidePool hasNoScalar noScalars callerFaults commentFaults defaults effective anyTooLarge anyOutside anyNoScalar limitFaults areaFault lengthsFault rangeFault areaFaults sourceFault editedMasterFault trackFaults numbersFault startFault propertyFaults infoFaults lacksAny localFaults givenFaults chunkFaults verdict soundSize soundHead callerChunks before behind localBytes front back place headerOf trailerOf roomFaults overlay window bit bits byteOf bytesOf crcOf comtChunk plainBytes unit unitBytes units sound start dst shown firstWhere touched pastLast range positionsFor isLent lentFrames zeroFrame framesWith soundBytes soundChunk localChunk formChunks fileOf formatFault needed same missing add gather among inner counted comments value cut report within first next walk-in walk read
 computed = record {
   built = record { orders = record { property = refl; info = refl; local = refl }; answers = refl; header = refl; trailer = refl };
   header = refl;
