@@ -1,1 +1,5 @@
+pub mod Opened
+pub mod CallLaws
+pub mod InstanceLaws
 pub mod Worked
+pub mod WorkedDsd

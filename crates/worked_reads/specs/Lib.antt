@@ -1,1 +1,3 @@
+pub mod Instance
 pub mod WorkedReads
+pub mod WorkedDsd
