@@ -1,0 +1,122 @@
+#!/usr/bin/env python3
+"""Writes the two tables of docs/PROOFS.md that are made from the wrong programs (crates/X/must-fail/*.edit) and the definitions.
+
+    tools/papers/wrong_programs.py            writes them
+    tools/papers/wrong_programs.py --check    only compares them
+
+The first lines of an edit are `refusal: N, M` (the refusals of 01 whose condition, number, place or detail it gets wrong; an edit that spoils
+all of them alike names none) and `says: ..` (what it does). A refusal's definition is the one that hands its number to `refuseIf`, and
+01's words are quoted in the comments of specs/ as `7: "Channels aren't 1 to 6"`.
+Exit status: 0 all is well; 1 a table differs, or a refusal lacks its words, its definition or a wrong program, or an edit says nothing."""
+import re, sys, textwrap
+from pathlib import Path
+
+ROOT = Path(__file__).resolve().parents[2]
+PAPER = ROOT / "docs" / "PROOFS.md"
+REFUSALS = range(1, 44)
+CRATES = re.findall(r"^(\w+):", (ROOT / "crates.txt").read_text(encoding="utf-8"), re.M)
+QUOTE = re.compile(r'(?<!\d)([1-9]\d*):? "(.+?)"(?=[.;)]| \(|$)')
+SIGNATURE = re.compile(r"^ *(?:abbrev |unfoldable )?(?:pub )?(\S+) : .*\n", re.M)
+
+
+def files(pattern):
+    """The files that fit a pattern, crate by crate, in the order of crates.txt."""
+    return [(crate, path) for crate in CRATES for path in sorted((ROOT / "crates" / crate).glob(pattern))]
+
+
+def edits():
+    """Of each edit: its crate, its label, the refusals, what it says, whether it changes a definition."""
+    for crate, path in files("must-fail/*.edit"):
+        lines = dict(reversed([line.split(": ", 1) for line in path.read_text(encoding="utf-8").splitlines() if ": " in line]))
+        numbers = [int(n) for n in re.findall(r"\d+", lines.get("refusal", ""))]
+        yield crate, path.stem, numbers, lines.get("says", ""), lines["file"].startswith("specs/")
+
+
+def arguments(text):
+    """The arguments at the front of a text, what is in brackets kept together."""
+    found, depth = [""], 0
+    for letter in text:
+        depth += {"(": 1, ")": -1}.get(letter, 0)
+        if depth < 0:
+            break
+        found = found + [""] if letter == " " and depth == 0 else found[:-1] + [found[-1] + letter]
+    return found
+
+
+def definitions():
+    """Of each definition: where it stands, its name, its parameters and its text on one line."""
+    for crate, path in files("specs/*.antt"):
+        text = re.sub(r"^ *--.*\n", "", path.read_text(encoding="utf-8"), flags=re.M)
+        parts = SIGNATURE.split(text)[1:]
+        for name, body in zip(parts[::2], parts[1::2]):
+            left, _, right = " ".join(body.split()).partition(" = ")
+            yield (crate, path.stem), name, left.split()[1:], right
+
+
+def defined():
+    """Of each number: the definitions that hand it to `refuseIf`, themselves or by one that takes the number (`short`, `beyond`)."""
+    by_file, found = {}, {}
+    for where, name, parameters, text in definitions():
+        place_of_number = by_file.setdefault(where, {"refuseIf": 1})
+        for call in re.finditer(r"(?<!\S)\(?(%s) " % "|".join(place_of_number), text):
+            given = arguments(text[call.end() :])[place_of_number[call.group(1)]]
+            if given in parameters:
+                place_of_number[name] = parameters.index(given)
+            elif (where, name) not in found.setdefault(int(given), []):
+                found[int(given)].append((where, name))
+    return found
+
+
+def quoted():
+    """Of each number and file of definitions: 01's words."""
+    found = {}
+    for crate, path in files("specs/*.antt"):
+        for comment in re.findall(r"^(?: *--.*\n)+", path.read_text(encoding="utf-8"), re.M):
+            for number, words in QUOTE.findall(" ".join(re.sub(r"^ *--", "", comment, flags=re.M).split())):
+                found.setdefault((int(number), (crate, path.stem)), words)
+    return found
+
+
+def refusals_table(all_edits, problems):
+    rows, found, quotes = ["| number | 01's words | definition | wrong programs |", "|---|---|---|---|"], defined(), quoted()
+    for number in REFUSALS:
+        places = found.get(number, [])
+        words = [quotes[number, where] for where, _ in places if (number, where) in quotes]
+        wrong = [f"{crate}/{label}" for crate, label, numbers, _, _ in all_edits if number in numbers]
+        lacks = {"definition": places, "words of 01 in the file of its definition": words, "wrong program": wrong}
+        problems += [f"refusal {number} has no {what}" for what, there in lacks.items() if not there]
+        named = [f"`{name}` ({crate}: specs/{file})" for (crate, file), name in places]
+        rows.append(f"| {number} | {''.join(words[:1])} | {'; '.join(named)} | {', '.join(wrong)} |")
+    return "\n".join(rows)
+
+
+def programs_list(all_edits, problems):
+    items = []
+    for crate in CRATES:
+        of_crate = [edit for edit in all_edits if edit[0] == crate]
+        problems += [f"{crate}/{label} has no `says:` line" for _, label, _, says, _ in of_crate if not says]
+        said = [says + " (a wrong definition)" * definition for _, _, _, says, definition in of_crate]
+        if said:
+            items.append(textwrap.fill(f"- {crate}: {'; '.join(said)}.", 150, subsequent_indent="  ", break_on_hyphens=False))
+    return "\n".join(items)
+
+
+def main():
+    all_edits, problems = list(edits()), []
+    problems += [f"{e[0]}/{e[1]}: there is no refusal {n}" for e in all_edits for n in e[2] if n not in REFUSALS]
+    made = {"refusals": refusals_table(all_edits, problems), "wrong programs": programs_list(all_edits, problems)}
+    paper = text = PAPER.read_text(encoding="utf-8")
+    for name, table in made.items():
+        marks = re.compile(rf"(<!-- {name}: made by [^>]*-->\n).*?(<!-- end of {name} -->)", re.S)
+        before, text = text, marks.sub(lambda m: f"{m.group(1)}\n{table}\n\n{m.group(2)}", text)
+        if not marks.search(before):
+            problems.append(f"docs/PROOFS.md has no place for the {name}: its marks are missing")
+        elif before != text and "--check" in sys.argv:
+            problems.append(f"docs/PROOFS.md: the {name} differ from the edits and definitions; run tools/papers/wrong_programs.py")
+    if "--check" not in sys.argv and text != paper:
+        PAPER.write_text(text, encoding="utf-8")
+    print("\n".join(problems), end="\n" * bool(problems))
+    return 1 if problems else 0
+
+
+sys.exit(main())
