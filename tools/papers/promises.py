@@ -3,8 +3,9 @@
 
     tools/papers/promises.py [ROOT]
 
-A public function has no `requires`; it has an `ensures`; each `ensures` is an equation, or a record of equations; the answer and every
-buffer that is lent to be written are in them, and of an answer that is told field by field, every field. Functions of programs are not `pub`.
+A public function has no `requires`; it has an `ensures`; each `ensures` is an equation, or a record of equations, without a condition; the
+answer and every buffer that is lent to be written are in them, and of an answer that is told field by field, every field. Functions of
+programs are not `pub`.
 Exit status: 0 nothing is listed, 1 something is."""
 import re, sys
 from pathlib import Path
@@ -57,7 +58,7 @@ def is_equation(fact):
     while (inner := re.sub(r"\([^()]*\)", "", outside)) != outside:
         outside = inner
     if "≡" in outside:
-        return True
+        return "→" not in outside and not re.fullmatch(r"(.*) ≡ \1", fact)
     head = fact.split()[0]
     if head in NAMES:
         return is_equation(NAMES[head])
@@ -82,12 +83,12 @@ def shortcomings(crate, name, signature, clauses, source):
     for lent in re.findall(r"(\w+): &mut", signature):
         if f"({lent} .exit)" not in told and f"(«{lent}» .exit)" not in told:
             yield f"does not say what `{lent}` holds in the end"
-    answer = re.search(r"-> (\w+)", signature)
+    answer = re.search(r"-> (\S.*)", signature)
     by_field = set(re.findall(r"\br \.«?(\w+)»?", told))
-    if answer and not re.search(r"\br\b", told):
+    if answer and not re.search(r"\br\b", told.replace("λ r.", "")):
         yield "does not say what it answers"
     if answer and by_field and not re.search(r"\br(?! \.)\b", told.replace("λ r.", "")):
-        struct = re.search(r"pub struct " + answer.group(1) + r" \{(.*?)\n\}", source, re.S)
+        struct = re.search(r"pub struct " + re.escape(answer.group(1)) + r" \{(.*?)\n\}", source, re.S)
         for field in re.findall(r"pub (\w+):", struct.group(1) if struct else ""):
             if field not in by_field:
                 yield f"does not say `{field}` of its answer"

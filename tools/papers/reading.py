@@ -5,8 +5,8 @@
 
 A table of it has a row for each file, `| [crate: specs/File](..) | lines | .. |`, and ends with `All N lines, about M minutes.`; the numbers are
 written anew (--check: only compared). A comment before a table, `<!-- reads: crate.File.name .. -->`, names statements: all that they cite, and
-what that cites, has to stand in files of the tables up to there. A table of names, `| names | file | .. |`, has all that the files of the table before it take
-from elsewhere.
+what that cites, has to stand in files of the tables up to there. A file cites only files that are listed before it, unless its table stands
+after a comment `<!-- top down -->`. A table of names, `| names | file | .. |`, has all that the files of the table before it take from elsewhere.
 Exit status: 0 it holds, 1 it does not."""
 import re, sys
 from pathlib import Path
@@ -63,8 +63,10 @@ def reached(cited, roots):
 
 def main():
     cited, faults, out = read_specs(), [], []
-    files, table, named, wanted, total = set(), set(), set(), set(), 0
-    for line in PAPER.read_text(encoding="utf-8").split("\n"):
+    files, table, named, wanted, total, top_down = set(), set(), set(), set(), 0, False
+    paper = PAPER.read_text(encoding="utf-8").split("\n")
+    listed = {m.group(1, 2) for line in paper if (m := FILE.match(line))}
+    for line in paper:
         if m := re.match(r"<!-- reads: (.*) -->", line):
             roots = [tuple(r.split(".")) for r in m.group(1).split()]
             faults += [f"there is no {'.'.join(r)}" for r in roots if r not in cited]
@@ -76,16 +78,21 @@ def main():
             lines = len(spec(m.group(1), m.group(2)).read_text(encoding="utf-8").splitlines())
             if not total:
                 table = set()
-            table.add((m.group(1), m.group(2)))
+            table.add(m.group(1, 2))
             files |= table
             total += lines
+            later = {d[:2] for user, uses in cited.items() if user[:2] == m.group(1, 2) for d in uses} & (listed - files)
+            if not top_down:
+                faults += [f"{m.group(1)}: specs/{m.group(2)} comes before {c}: specs/{f}, which it cites" for c, f in sorted(later)]
             line = f"{line[: m.start(3)]}{lines} |{m.group(4)}"
         elif m := NAMES.match(line):
             named |= {(m.group(2), m.group(3), n) for n in re.findall(r"`([^`]+)`", m.group(1))}
         elif m := TOTAL.match(line):
             minutes = -(-total // LINES_A_MINUTE // 5) * 5
             line = f"All {total:,} lines, about {minutes} minutes." + line[m.end() :]
-            total = 0
+            total, top_down = 0, False
+        elif line == "<!-- top down -->":
+            top_down = True
         elif line.startswith("#"):
             if named:
                 wanted = {d for user, uses in cited.items() if user[:2] in table for d in uses if d[:2] not in table} - named
@@ -95,12 +102,11 @@ def main():
             faults += [f"lacks {d[2]} ({d[0]}: specs/{d[1]})" for d in sorted(wanted)]
             wanted, named = set(), set()
         out.append(line)
-    text = "\n".join(out)
     if "--check" in sys.argv:
-        if text != PAPER.read_text(encoding="utf-8"):
+        if out != paper:
             faults.append("numbers of the reading order in docs/PROOFS.md are old: run tools/papers/reading.py")
     else:
-        PAPER.write_text(text, encoding="utf-8")
+        PAPER.write_text("\n".join(out), encoding="utf-8")
     for fault in faults:
         print(f"docs/PROOFS.md, reading order: {fault}")
     return 1 if faults else 0

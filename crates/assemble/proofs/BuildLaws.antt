@@ -23,7 +23,7 @@ use Rattle.build_answer.specs.declared.answer.Answer.the-variants as answer
 use Rattle.header_trailer.specs.declared.measure.Lengths.{Lengths}
 use Rattle.assemble.specs.Build.{roomFault, buildVerdict, Outcome}
 use Rattle.header_trailer.specs.Measure.{Measured}
-use Rattle.header_trailer.specs.Fill.{Filled}
+use Rattle.header_trailer.specs.Fill.{BothWritten}
 
 -- where there is room, what is laid over the front stands before the rest
 laid : (xs bs : List ℕ) → length bs ≤ length xs → overlay xs 0 bs ≡ bs ++ drop (length bs) xs
@@ -55,7 +55,7 @@ module _ (x : Inputs) (ok : verdict x ≡ Accepted) (m : Lengths) (known : Measu
   there = header-long ∙ length-header x
 
   -- what is written is the header and the trailer
-  pub header-filled : {s : ℕ} {h h′ t t′ : List ℕ} → s ≡ soundLength x → Filled x (m .front + s + m .back) (12 + m .front) h h′ t t′ → h′ ≡ overlay h 0 (headerOf x)
+  pub header-filled : {s : ℕ} {h h′ t t′ : List ℕ} → s ≡ soundLength x → BothWritten x (m .front + s + m .back) (12 + m .front) h h′ t t′ → h′ ≡ overlay h 0 (headerOf x)
   unfolding headerOf
   header-filled {s} e f =
       let a = front-long ∙ length-front x 0 (place x) in
@@ -63,7 +63,7 @@ module _ (x : Inputs) (ok : verdict x ≡ Accepted) (m : Lengths) (known : Measu
       let size : m .front + s + m .back ≡ formSize x = omega (arith, a, b, e) in
       f .header ∙ rw (size, there)
 
-  pub trailer-filled : {n : ℕ} {h h′ t t′ : List ℕ} → Filled x n (12 + m .front) h h′ t t′ → t′ ≡ overlay t 0 (trailerOf x)
+  pub trailer-filled : {n : ℕ} {h h′ t t′ : List ℕ} → BothWritten x n (12 + m .front) h h′ t t′ → t′ ≡ overlay t 0 (trailerOf x)
   unfolding trailerOf
   trailer-filled f = f .trailer ∙ rw there
 

@@ -1,4 +1,5 @@
--- The index of the frames (01: "DSTI holds per frame an 8-byte offset of the DSTF header (12 more under `FrameData`) and a 4-byte length").
+-- The index of the frames (01: "DSTI .. holds per frame an 8-byte offset of the DSTF header (12 more under `FrameData`) and a 4-byte length"). Offsets count from the file's
+-- first byte: the first entry's is that of the first sound byte (file_tree: specs/Parts `firstOffset`, specs/File `place`), and `shiftOf` more.
 -- Assumes nothing.
 use Prim.Native.Nat.{ℕ, zero, suc, _*_}
 use mathlib.Core.Path.{_≡_}
@@ -35,7 +36,7 @@ joined f (suc n) = joined f n ++ f n
 unfoldable pub index : Bool → ℕ → List ℕ → List ℕ
 index crc at lengths = joined (entryOf crc at lengths) (length lengths)
 
--- DSTI, of entries whose first has this offset: its size, at most the largest u64 (which says that it does not fit), and the entries
+-- DSTI, of entries whose first has this offset: its size, at most the largest u64 (which says that it does not fit), and the entries, which need no pad
 unfoldable pub dsti : Bool → ℕ → List ℕ → List ℕ
 dsti crc at ls = ascii "DSTI" ++ be 8 (moved 0 (12 * length ls)) ++ index crc at ls
 

@@ -23,7 +23,7 @@ use Rattle.read_answer.specs.declared.answer.ReadAnswer.{ReadAnswer}
 use Rattle.read_answer.specs.declared.answer.ReadAnswer.the-variants as answer
 use Rattle.read_answer.specs.Answer.{readNumber, readValue}
 use Rattle.file_read.specs.Read.{Request, Reads}
-use Rattle.old_readers.specs.Premises.{AcceptedBuild, Given, IfAccepted, AllGiven, readBy, readOf, readsOf}
+use Rattle.old_readers.specs.Premises.{AcceptedBuild, WasGiven, IfAccepted, AllGiven, readBy, readOf, readsOf}
 use Rattle.old_readers.proofs.OldReadersProof.{every-list-of-reads}
 use Rattle.exported_reads.specs.Callers.{ExportedBuild, inputsBy, Accepts, buildOf, EveryExportedBuild, ExportedRead, callOf, exportedRead, AllGivenBy, EveryListOfExportedReads}
 use Rattle.exported_reads.proofs.NumberLaws.{exported-numbered, refused-build, refused-read}
@@ -72,7 +72,7 @@ reads-are (c ∷ cs) = ap₂ (λ (r : Read) (rs : List Read). r ∷ rs) (read-is
 
 -- what the accepted ones were given
 module _ (b : AcceptedBuild) (fs : List Frame) where
-  if-accepted : (q : Request) (room : ℕ) (r : ReadAnswer) (n : ℕ) → n ≡ readNumber r → (n ≡ 0 → Given b fs q room) → IfAccepted b fs q room r
+  if-accepted : (q : Request) (room : ℕ) (r : ReadAnswer) (n : ℕ) → n ≡ readNumber r → (n ≡ 0 → WasGiven b fs q room) → IfAccepted b fs q room r
   if-accepted q room (answer.Filled count) n e given = given e
   if-accepted q room (answer.Refused number detail) n e given = tt
 

@@ -18,7 +18,7 @@ use Rattle.assemble.specs.Build.{Builds}
 use Rattle.file_read.specs.Read.{Request}
 use Rattle.abi.specs.Build.{Exported}
 use Rattle.abi.specs.Reads as abi
-use Rattle.old_readers.specs.Premises.{AcceptedBuild, Call, Recorded, Given, readsOf}
+use Rattle.old_readers.specs.Premises.{AcceptedBuild, Call, Recorded, WasGiven, readsOf}
 use Rattle.old_readers.specs.OldReaders.{OldReaders}
 
 -- a call of `jangqeruz_build` and the number that it answered: the words and lent slices, and what was in its buffers before and after
@@ -90,7 +90,7 @@ exportedRead c = cond (eqb (c .number) 0) (accepted (c .request .offset) (length
 -- each that answered 0 was given what the build was given and made, and lent the needed frames
 abbrev pub AllGivenBy : AcceptedBuild → List Frame → List ExportedRead → Type 0
 AllGivenBy b fs [] = Unit {0}
-AllGivenBy b fs (c ∷ cs) = (c .number ≡ 0 → Given b fs (c .request) (length (c .out))) × AllGivenBy b fs cs
+AllGivenBy b fs (c ∷ cs) = (c .number ≡ 0 → WasGiven b fs (c .request) (length (c .out))) × AllGivenBy b fs cs
 
 -- what they gather is by their numbers and values, and demand 3 holds of it
 pub record ExportedReads (b : AcceptedBuild) (fs : List Frame) (cs : List ExportedRead) : Type 0 where

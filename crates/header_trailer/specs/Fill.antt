@@ -10,6 +10,6 @@ use Rattle.build_options.specs.Inputs.{Inputs}
 use Rattle.file_tree.specs.File.{frontOf, backOf}
 
 -- the buffers after the writing, where FRM8's data has so many bytes and the sound begins at `base`
-pub record Filled (x : Inputs) (size base : ℕ) (h h′ t t′ : List ℕ) : Type 0 where
+pub record BothWritten (x : Inputs) (size base : ℕ) (h h′ t t′ : List ℕ) : Type 0 where
   pub header : h′ ≡ overlay h 0 (ascii "FRM8" ++ be 8 size ++ frontOf x base)
   pub trailer : t′ ≡ overlay t 0 (backOf x base)

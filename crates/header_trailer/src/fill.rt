@@ -1,6 +1,6 @@
 // Header and trailer, written.
 ghost use Rattle.build_options.specs.Inputs.{inputsOf};
-ghost use Rattle.header_trailer.specs.Fill.{Filled};
+ghost use Rattle.header_trailer.specs.Fill.{BothWritten};
 use build_options::area::Area;
 use build_options::options::Options;
 use chunk::Cursor;
@@ -28,7 +28,7 @@ pub fn fill(
     head: &mut [u8],
     tail: &mut [u8],
 )
-    ensures { λ _. ⌜ Filled (inputsOf area options «property_order» «info_order» «local_order» «local_count» (now (pool .entry)) (now (raw .entry)) (now (tracks .entry)) (now (markers .entry)) (now (comments .entry)) (now (callers .entry)) (now (lengths .entry))) size base
+    ensures { λ _. ⌜ BothWritten (inputsOf area options «property_order» «info_order» «local_order» «local_count» (now (pool .entry)) (now (raw .entry)) (now (tracks .entry)) (now (markers .entry)) (now (comments .entry)) (now (callers .entry)) (now (lengths .entry))) size base
         (now (head .entry)) (now (head .exit)) (now (tail .entry)) (now (tail .exit)) ⌝ }
 {
     let start = Cursor::new();

@@ -8,14 +8,14 @@ use Rattle.dst.specs.Frame.{Frame}
 use Rattle.read_answer.specs.declared.answer.ReadAnswer.{ReadAnswer}
 use Rattle.read_answer.specs.declared.answer.ReadAnswer.the-variants as answer
 use Rattle.file_read.specs.Read.{Request, Reads}
-use Rattle.old_readers.specs.Premises.{AcceptedBuild, Call, Recorded, Given, IfAccepted, AllGiven, readBy, readsOf}
+use Rattle.old_readers.specs.Premises.{AcceptedBuild, Call, Recorded, WasGiven, IfAccepted, AllGiven, readBy, readsOf}
 use Rattle.old_readers.specs.OldReaders.{fileBytes}
 use Rattle.old_readers.proofs.FilledLaws.{shown-window, filled}
 use Rattle.old_readers.proofs.RealLaws.{same-file}
 
 module _ (b : AcceptedBuild) (fs : List Frame) (recorded : Recorded (b .inputs) fs) where
   -- an accepted read
-  filled-window : (q : Request) (out last : List ℕ) (count : ℕ) → Reads q out last (answer.Filled count) → Given b fs q (length out)
+  filled-window : (q : Request) (out last : List ℕ) (count : ℕ) → Reads q out last (answer.Filled count) → WasGiven b fs q (length out)
       → take count last ≡ window (fileBytes b fs) (q .offset) (length out)
   filled-window q out last count promise given =
       let f = filled q promise in

@@ -16,7 +16,7 @@ use Rattle.file_tree.specs.Sound.{Fits}
 use Rattle.read_rules.specs.Format.{unitSizes}
 use Rattle.file_read.specs.Read.{Request, neededFor}
 use Rattle.file_read.proofs.PieceLaws.{behind, needed-behind}
-use Rattle.old_readers.specs.Premises.{AcceptedBuild, Recorded, Lent, Told, Given}
+use Rattle.old_readers.specs.Premises.{AcceptedBuild, Recorded, Lent, Told, WasGiven}
 
 -- of DST frames
 pub record DstRead (fs : List Frame) (q : Request) (room : ℕ) : Type 0 where
@@ -61,7 +61,7 @@ map-lengths : (fs : List Frame) → map (λ (c : List ℕ). length c) (contentsO
 map-lengths [] = refl
 map-lengths (f ∷ fs) = ap (λ (l : List ℕ). length (f .content) ∷ l) (map-lengths fs)
 
-module _ (b : AcceptedBuild) (fs : List Frame) (recorded : Recorded (b .inputs) fs) (q : Request) (room : ℕ) (given : Given b fs q room) where
+module _ (b : AcceptedBuild) (fs : List Frame) (recorded : Recorded (b .inputs) fs) (q : Request) (room : ℕ) (given : WasGiven b fs q room) where
   by-sound : (s : Sound) → b .inputs .area .sound ≡ s → Told s (b .inputs) q → Lent s (b .inputs .options .«dst_crc») fs q room
       → Fits s (b .inputs .area) (b .inputs .lengths) fs → ReadOf s fs q room
   by-sound Dst e ls lent fits = record {

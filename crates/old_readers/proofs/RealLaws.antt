@@ -24,7 +24,7 @@ use Rattle.file_tree.specs.Sound.{soundBytes}
 use Rattle.file_read.specs.Lent.{soundWith}
 use Rattle.file_read.specs.Read.{Request, neededFor, fileWith}
 use Rattle.file_read.proofs.PieceLaws.{begin, behind}
-use Rattle.old_readers.specs.Premises.{AcceptedBuild, Recorded, Given}
+use Rattle.old_readers.specs.Premises.{AcceptedBuild, Recorded, WasGiven}
 use Rattle.old_readers.specs.OldReaders.{fileBytes}
 use Rattle.old_readers.proofs.KnownLaws.{DstRead, DsdRead, contentsOf, ReadOf, dstNeeds, dst-needs, dsdNeeds, dsd-needs, read-of}
 
@@ -100,7 +100,7 @@ module _ (q : Request) (out : List ℕ) where
   sound-same Dsd fs known = dsd-sound (contentsOf fs) known
 
 -- a read of a build's file
-module _ (b : AcceptedBuild) (fs : List Frame) (recorded : Recorded (b .inputs) fs) (q : Request) (out : List ℕ) (given : Given b fs q (length out)) where
+module _ (b : AcceptedBuild) (fs : List Frame) (recorded : Recorded (b .inputs) fs) (q : Request) (out : List ℕ) (given : WasGiven b fs q (length out)) where
   abbrev x : Inputs
   x = b .inputs
 

@@ -24,7 +24,7 @@ use Rattle.read_rules.specs.Fault.{mostPositions, longestSide, lengthsWrongBy, 
 use Rattle.file_read.specs.Lent.{isLentFor}
 use Rattle.file_read.specs.Read.{Request, neededFor, readVerdict}
 use Rattle.file_read.proofs.PieceLaws.{behind}
-use Rattle.old_readers.specs.Premises.{AcceptedBuild, Recorded, Told, Given}
+use Rattle.old_readers.specs.Premises.{AcceptedBuild, Recorded, Told, WasGiven}
 use Rattle.old_readers.specs.RightReads.{LentLengths, EveryRightRead}
 use Rattle.old_readers.proofs.KnownLaws.{contentsOf, ReadOf, dst-needs, dsd-needs, read-of}
 
@@ -39,7 +39,7 @@ is-lent Dsd fs q out known lent =
     (eq-eqb _ _ (lent-even (q .format .channels) (contentsOf fs) (known .even) (behind q out) out))
 
 -- 42: what it is told is that of an accepted build
-module _ (b : AcceptedBuild) (fs : List Frame) (q : Request) (room : ℕ) (given : Given b fs q room) where
+module _ (b : AcceptedBuild) (fs : List Frame) (q : Request) (room : ℕ) (given : WasGiven b fs q room) where
   abbrev x : Inputs
   x = b .inputs
 
@@ -80,7 +80,7 @@ module _ (b : AcceptedBuild) (fs : List Frame) (q : Request) (room : ℕ) (given
       )
 
 -- a read into a buffer
-into : (b : AcceptedBuild) (fs : List Frame) → Recorded (b .inputs) fs → (q : Request) (out : List ℕ) → Given b fs q (length out)
+into : (b : AcceptedBuild) (fs : List Frame) → Recorded (b .inputs) fs → (q : Request) (out : List ℕ) → WasGiven b fs q (length out)
     → LentLengths (b .inputs .area .sound) fs q (length out) → readVerdict q (length out) ≡ Accepted
 into b fs recorded q out given lent =
     let known = read-of b fs recorded q (length out) given in
@@ -90,5 +90,5 @@ pub every-right-read : EveryRightRead
 every-right-read b fs recorded q room given lent =
     let e = length-replicate {A = ℕ} room 0 in
     subst (λ (n : ℕ). readVerdict q n ≡ Accepted) e
-    (into b fs recorded q (replicate room 0) (subst (λ (n : ℕ). Given b fs q n) (sym e) given)
+    (into b fs recorded q (replicate room 0) (subst (λ (n : ℕ). WasGiven b fs q n) (sym e) given)
     (subst (λ (n : ℕ). LentLengths (b .inputs .area .sound) fs q n) (sym e) lent))

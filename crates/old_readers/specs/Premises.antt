@@ -58,7 +58,7 @@ Told Dsd x q = q .format .positions ≡ areaPositions (x .area)
 Told Dst x q = q .lengths ≡ x .lengths
 
 -- a read of `room` bytes was given what the build was given and made, and lent the needed frames
-pub record Given (b : AcceptedBuild) (fs : List Frame) (q : Request) (room : ℕ) : Type 0 where
+pub record WasGiven (b : AcceptedBuild) (fs : List Frame) (q : Request) (room : ℕ) : Type 0 where
   pub kind : q .format .sound ≡ b .inputs .area .sound
   pub crc : q .format .crc ≡ b .inputs .options .«dst_crc»
   pub channels : q .format .channels ≡ b .inputs .area .channels
@@ -69,7 +69,7 @@ pub record Given (b : AcceptedBuild) (fs : List Frame) (q : Request) (room : ℕ
 
 -- if it was accepted; of a refused read nothing is assumed
 abbrev pub IfAccepted : AcceptedBuild → List Frame → Request → ℕ → ReadAnswer → Type 0
-IfAccepted b fs q room (answer.Filled count) = Given b fs q room
+IfAccepted b fs q room (answer.Filled count) = WasGiven b fs q room
 IfAccepted b fs q room (answer.Refused number detail) = Unit {0}
 
 -- each of a list of calls

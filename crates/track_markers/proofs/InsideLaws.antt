@@ -8,7 +8,7 @@ use native.Mathlib.Omega.{arith}
 use lib.Dec.{eqb, ltb}
 use borrow.Author.Tests.{ltb-true}
 use Rattle.markers.proofs.AllLaws.{All, append-all, if-all, either-all}
-use Rattle.tracks.specs.Track.{clip, hasFrames, kept, clipped, some}
+use Rattle.tracks.specs.Track.{clip, hasFrames, kept, clipped, anySpans}
 use Rattle.track_markers.specs.Program.{trackStart, trackStop, stopUnless, trackMarkers, program, sourceSpan, sourceMarkers, fromToc}
 use Rattle.tracks.specs.Order.{hasProgram}
 use Rattle.markers.specs.declared.marker.Marker.{Marker}
@@ -67,4 +67,4 @@ toc-inside p ss range =
     let left = clipped first end (sourceSpan p ss) in
     either-all (MarkerInside first end) (eqb (p .«source_track») 0) _ _
     (if-all (MarkerInside first end) (hasProgram p ss) _ (program-inside first end range (p .titles) _ (clipped-inside first end ss)))
-    (if-all (MarkerInside first end) (p .«source_track_markers» && some left) _ (program-inside first end range (p .titles) left (clipped-inside first end (sourceSpan p ss))))
+    (if-all (MarkerInside first end) (p .«source_track_markers» && anySpans left) _ (program-inside first end range (p .titles) left (clipped-inside first end (sourceSpan p ss))))

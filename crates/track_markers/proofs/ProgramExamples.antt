@@ -4,7 +4,7 @@ use mathlib.Core.Bool.{true, false}
 use mathlib.Core.List.{List, [], _∷_, flatMap}
 use Prim.Native.Nat.{ℕ}
 use Rattle.chunk.specs.Rows.{firstRows, rows}
-use Rattle.tracks.specs.Track.{spanOf, spans, clip, hasFrames, kept, clipped, inOrder, allHaveFrames, exact, some}
+use Rattle.tracks.specs.Track.{spanOf, spans, clip, hasFrames, kept, clipped, inOrder, allHaveFrames, exact, anySpans}
 use Rattle.track_markers.specs.Program.{marker, trackStart, trackStop, stopUnless, trackMarkers, program, fromToc}
 use Rattle.tracks.specs.Order.{isPlayRange, hasProgram}
 use Rattle.markers.specs.declared.marker.MarkerKind.the-variants.{TrackStart, TrackStop, ProgramStart}
@@ -30,7 +30,7 @@ both = record {
 -- the first track has no stop, as the second starts there
 both-markers : fromToc both (spans words)
     ≡ marker 0 ProgramStart Empty ∷ marker 0 TrackStart Empty ∷ marker 75 TrackStart Empty ∷ marker 150 TrackStop Empty ∷ []
-unfolding words both rows firstRows flatMap spanOf spans clip hasFrames kept clipped inOrder allHaveFrames exact some trackStart trackStop stopUnless trackMarkers program isPlayRange hasProgram fromToc
+unfolding words both rows firstRows flatMap spanOf spans clip hasFrames kept clipped inOrder allHaveFrames exact anySpans trackStart trackStop stopUnless trackMarkers program isPlayRange hasProgram fromToc
 both-markers = refl
 
 -- three tracks with titles, of which the second lies outside the range
@@ -55,5 +55,5 @@ third-title : fromToc range (spans three)
     ∷ marker 5 TrackStart (Title (record { start = 12; length = 1 }))
     ∷ marker 10 TrackStop Empty
     ∷ []
-unfolding three range rows firstRows flatMap spanOf spans clip hasFrames kept clipped inOrder allHaveFrames exact some trackStart trackStop stopUnless trackMarkers program isPlayRange hasProgram fromToc
+unfolding three range rows firstRows flatMap spanOf spans clip hasFrames kept clipped inOrder allHaveFrames exact anySpans trackStart trackStop stopUnless trackMarkers program isPlayRange hasProgram fromToc
 third-title = refl

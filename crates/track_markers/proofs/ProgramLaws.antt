@@ -5,7 +5,7 @@ use mathlib.Core.List.{List, [], _∷_, _++_, append-assoc, append-nil}
 use Prim.Native.Nat.{ℕ}
 use lib.Dec.{eqb}
 use borrow.Author.Tests.{eq-eqb, ne-eqb, eqb-true, eqb-false}
-use Rattle.tracks.specs.Track.{hasFrames, kept, endAfter, some}
+use Rattle.tracks.specs.Track.{hasFrames, kept, endAfter, anySpans}
 use Rattle.track_markers.specs.Program.{trackStart, trackStop, stopUnless, trackMarkers}
 use Rattle.track_markers.specs.Pass.{stopIf, addedMarkers}
 use Rattle.markers.specs.declared.marker.Marker.{Marker}
@@ -42,8 +42,8 @@ module _ (titles : Bool) where
   closed s [] = refl
   closed s (n ∷ ss) = rw (stop-unless s n ss, closed n ss, append-assoc)
 
-  pub track-markers : (ss : List Span) → trackMarkers titles ss ≡ opened titles false 0 ss ++ stopIf (some ss) (endAfter 0 ss)
-  unfolding trackMarkers opened stopIf some endAfter
+  pub track-markers : (ss : List Span) → trackMarkers titles ss ≡ opened titles false 0 ss ++ stopIf (anySpans ss) (endAfter 0 ss)
+  unfolding trackMarkers opened stopIf anySpans endAfter
   track-markers [] = refl
   track-markers (s ∷ ss) = rw (closed s ss)
 
@@ -51,29 +51,29 @@ module _ (titles : Bool) where
   opened-snoc : (pending : Bool) (stop : ℕ) (xs : List Span) (s : Span)
       → opened titles pending stop (xs ++ (s ∷ []))
       ≡ opened titles pending stop xs
-      ++ (stopIf ((pending || some xs) && not (eqb (endAfter stop xs) (s .start))) (endAfter stop xs) ++ (trackStart titles s ∷ []))
-  unfolding opened some endAfter
+      ++ (stopIf ((pending || anySpans xs) && not (eqb (endAfter stop xs) (s .start))) (endAfter stop xs) ++ (trackStart titles s ∷ []))
+  unfolding opened anySpans endAfter
   opened-snoc pending stop [] s = rw or-false
   opened-snoc pending stop (x ∷ xs) s = rw (or-true, opened-snoc true (x .end) xs s, append-assoc)
 
   module _ (xs : List Span) (s : Span) where
-    pub opened-next : opened titles false 0 (xs ++ kept s) ≡ opened titles false 0 xs ++ addedMarkers (some xs) (endAfter 0 xs) titles s
+    pub opened-next : opened titles false 0 (xs ++ kept s) ≡ opened titles false 0 xs ++ addedMarkers (anySpans xs) (endAfter 0 xs) titles s
     unfolding kept addedMarkers
     opened-next = go (hasFrames s)
       where
         go : (t : Bool) → opened titles false 0 (xs ++ cond t (s ∷ []) [])
             ≡ opened titles false 0 xs
-            ++ cond t (stopIf (some xs && not (eqb (endAfter 0 xs) (s .start))) (endAfter 0 xs) ++ (trackStart titles s ∷ [])) []
+            ++ cond t (stopIf (anySpans xs && not (eqb (endAfter 0 xs) (s .start))) (endAfter 0 xs) ++ (trackStart titles s ∷ [])) []
         go true = opened-snoc false 0 xs s
         go false = simp append-nil
 
-some-kept : (t : Bool) (s : Span) → some (cond t (s ∷ []) []) ≡ t
-unfolding some
+some-kept : (t : Bool) (s : Span) → anySpans (cond t (s ∷ []) []) ≡ t
+unfolding anySpans
 some-kept true s = refl
 some-kept false s = refl
 
 module _ (xs : List Span) (s : Span) where
-  pub some-next : some (xs ++ kept s) ≡ (some xs || hasFrames s)
+  pub some-next : anySpans (xs ++ kept s) ≡ (anySpans xs || hasFrames s)
   unfolding kept
   some-next = rw (some-append, some-kept (hasFrames s) s)
 

@@ -15,7 +15,7 @@ use Rattle.tree.proofs.TreeLaws.{bytes-stop, bytes-leaf, bytes-each-cons}
 use Rattle.texts.proofs.ExtentLaws.{length-part}
 use Rattle.texts.proofs.TextLaws.{extent-short}
 use Rattle.markers.specs.Marker.{mark, markData, markerText}
-use Rattle.tracks.specs.Track.{clip, kept, clipped, hasFrames, some}
+use Rattle.tracks.specs.Track.{clip, kept, clipped, hasFrames, anySpans}
 use Rattle.track_markers.specs.Program.{trackStart, trackStop, stopUnless, trackMarkers, program, sourceSpan, sourceMarkers, fromToc}
 use Rattle.tracks.specs.Order.{hasProgram}
 use Rattle.markers.specs.declared.marker.Marker.{Marker}
@@ -105,7 +105,7 @@ module _ (n : ℕ) where
       let left = clipped (p .first) (p .end) (sourceSpan p ss) in
       either-all (λ m. ShortText (m .text)) (eqb (p .«source_track») 0) _ _
       (if-all (λ m. ShortText (m .text)) (hasProgram p ss) _ (program-short (p .first) (p .titles) _ (clipped-short (p .first) (p .end) ss h)))
-      (if-all (λ m. ShortText (m .text)) (p .«source_track_markers» && some left) _
+      (if-all (λ m. ShortText (m .text)) (p .«source_track_markers» && anySpans left) _
       (program-short (p .first) (p .titles) left (clipped-short (p .first) (p .end) (sourceSpan p ss) (one-all (λ s. s .title .length ≤ n) (p .«source_track» - 1) ss h))))
 
 -- how many markers spans make: at most two each, and the program's start
@@ -153,5 +153,5 @@ toc-few p ss =
     let left = clipped (p .first) (p .end) (sourceSpan p ss) in
     either-few (eqb (p .«source_track») 0) _ _ (1 + 2 * length ss)
     (if-few (hasProgram p ss) _ _ (program-few (p .first) (p .titles) _ (length ss) (clipped-few (p .first) (p .end) ss)))
-    (if-few (p .«source_track_markers» && some left) _ _
+    (if-few (p .«source_track_markers» && anySpans left) _ _
     (program-few (p .first) (p .titles) left (length ss) (le-trans (clipped-few (p .first) (p .end) (sourceSpan p ss)) (one-few (p .«source_track» - 1) ss))))

@@ -14,7 +14,7 @@ use Rattle.markers.specs.declared.marker.MarkerText.the-variants.{Empty, Title}
 use Rattle.markers.specs.declared.marker.Marker.{Marker}
 use Rattle.tracks.specs.declared.track.Span.{Span}
 use Rattle.tracks.specs.declared.order.ProgramOptions.{ProgramOptions}
-use Rattle.tracks.specs.Track.{clipped, some}
+use Rattle.tracks.specs.Track.{clipped, anySpans}
 use Rattle.tracks.specs.Order.{hasProgram}
 
 -- a marker without flags
@@ -50,7 +50,7 @@ sourceSpan p ss = take 1 (drop (p .«source_track» - 1) ss)
 unfoldable pub sourceMarkers : ProgramOptions → List Span → List Marker
 sourceMarkers p ss =
     let left = clipped (p .first) (p .end) (sourceSpan p ss) in
-    cond (p .«source_track_markers» && some left) (program (p .first) (p .titles) left) []
+    cond (p .«source_track_markers» && anySpans left) (program (p .first) (p .titles) left) []
 
 -- the markers made from tracks
 unfoldable pub fromToc : ProgramOptions → List Span → List Marker

@@ -7,7 +7,7 @@ use native.Mathlib.Omega.{arith}
 use lib.ListN.{length, take, getD}
 use lib.Dec.{leb}
 use Rattle.chunk.specs.Rows.{rows}
-use Rattle.tracks.specs.Track.{spanOf, spanAt, spans, clip, hasFrames, kept, clipped, inOrder, endAfter, allHaveFrames, exact, some}
+use Rattle.tracks.specs.Track.{spanOf, spanAt, spans, clip, hasFrames, kept, clipped, inOrder, endAfter, allHaveFrames, exact, anySpans}
 use Rattle.tracks.specs.Steps.{orderWith}
 use Rattle.tracks.specs.declared.track.Span.{Span}
 use Rattle.tracks.specs.declared.order.Order.{Order}
@@ -23,8 +23,8 @@ unfolding inOrder endAfter
 inOrder-snoc after [] s = and-true (leb after (s .start))
 inOrder-snoc after (x ∷ xs) s = rw (inOrder-snoc (x .end) xs s, and-assoc)
 
-pub some-append : (xs ys : List Span) → some (xs ++ ys) ≡ (some xs || some ys)
-unfolding some
+pub some-append : (xs ys : List Span) → anySpans (xs ++ ys) ≡ (anySpans xs || anySpans ys)
+unfolding anySpans
 some-append [] ys = refl
 some-append (x ∷ xs) ys = refl
 
@@ -35,14 +35,14 @@ allHaveFrames-snoc (x ∷ xs) s = rw (allHaveFrames-snoc xs s, and-assoc)
 
 -- what is known of spans (ss), and of those of them that are left (ls)
 pub record Known (o : Order) (ss ls : List Span) : Type 0 where
-  pub left : o .left ≡ some ls
+  pub left : o .left ≡ anySpans ls
   pub whole : o .whole ≡ allHaveFrames ss
   pub ordered : o .ordered ≡ inOrder 0 ls
   pub end : o .end ≡ endAfter 0 ls
 
 -- one span more, empty or not
 known-next : {o : Order} {ss ls : List Span} (s : Span) (b : Bool) → hasFrames s ≡ b → Known o ss ls → Known (orderWith o s) (ss ++ (s ∷ [])) (ls ++ kept s)
-unfolding orderWith kept some
+unfolding orderWith kept anySpans
 known-next s true e k =
     rw e
     (record {
@@ -66,7 +66,7 @@ module _ (first end : ℕ) (words : List ℕ) where
   Passed i o = let ss = take i (spans words) in Known o (map (clip first end) ss) (clipped first end ss)
 
   pub passed-none : Passed 0 (record { left = false; whole = true; ordered = true; end = 0 })
-  unfolding clipped flatMap some allHaveFrames inOrder endAfter
+  unfolding clipped flatMap anySpans allHaveFrames inOrder endAfter
   passed-none = record { left = refl; whole = refl; ordered = refl; end = refl }
 
   pub passed-next : (i : ℕ) {o : Order} → i < length words / 4 → Passed i o → Passed (i + 1) (orderWith o (clip first end (spanAt words i)))

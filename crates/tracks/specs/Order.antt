@@ -5,7 +5,7 @@ use mathlib.Core.List.{List}
 use lib.Dec.{eqb}
 use Rattle.tracks.specs.declared.track.Span.{Span}
 use Rattle.tracks.specs.declared.order.ProgramOptions.{ProgramOptions}
-use Rattle.tracks.specs.Track.{clipped, inOrder, exact, some}
+use Rattle.tracks.specs.Track.{clipped, inOrder, exact, anySpans}
 
 -- whether the range is the play range
 unfoldable pub isPlayRange : ProgramOptions → Bool
@@ -15,4 +15,4 @@ isPlayRange p = eqb (p .first) 0 && eqb (p .end) (p .playtime)
 unfoldable pub hasProgram : ProgramOptions → List Span → Bool
 hasProgram p ss =
     let left = clipped (p .first) (p .end) ss in
-    some left && (inOrder 0 left && cond (isPlayRange p) (exact ss) (p .«clipped_program»))
+    anySpans left && (inOrder 0 left && cond (isPlayRange p) (exact ss) (p .«clipped_program»))

@@ -64,6 +64,6 @@ unfoldable pub exact : List Span → Bool
 exact ss = allHaveFrames ss && inOrder 0 ss
 
 -- whether there are any
-unfoldable pub some : List Span → Bool
-some [] = false
-some (s ∷ ss) = true
+unfoldable pub anySpans : List Span → Bool
+anySpans [] = false
+anySpans (s ∷ ss) = true

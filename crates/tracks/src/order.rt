@@ -1,7 +1,7 @@
 // Whether tracks are in order, and give a program.
 ghost use mathlib.Core.Path.{_≡_};
 ghost use mathlib.Core.List.{map};
-ghost use Rattle.tracks.specs.Track.{spans, clip, clipped, inOrder, endAfter, allHaveFrames, exact, some};
+ghost use Rattle.tracks.specs.Track.{spans, clip, clipped, inOrder, endAfter, allHaveFrames, exact, anySpans};
 ghost use Rattle.tracks.specs.Order.{isPlayRange, hasProgram};
 ghost use Rattle.tracks.specs.Steps.{orderWith};
 use crate::track::Span;
@@ -49,7 +49,7 @@ impl Order {
 
 // The order of the tracks' spans, clipped to a range.
 pub fn clipped_order(tracks: &[u32], first: u32, end: u32) -> Order
-    ensures { λ r. ⌜ r .left ≡ some (clipped first end (spans (now (tracks .entry)))) ⌝ }
+    ensures { λ r. ⌜ r .left ≡ anySpans (clipped first end (spans (now (tracks .entry)))) ⌝ }
     ensures { λ r. ⌜ r .whole ≡ allHaveFrames (map (clip first end) (spans (now (tracks .entry)))) ⌝ }
     ensures { λ r. ⌜ r .ordered ≡ inOrder 0 (clipped first end (spans (now (tracks .entry)))) ⌝ }
     ensures { λ r. ⌜ r .end ≡ endAfter 0 (clipped first end (spans (now (tracks .entry)))) ⌝ }

@@ -33,7 +33,8 @@ pub(crate) fn read(file: &[u8], at: usize) -> Wanted {
     }
 }
 
-fn is(given: Answer, number: u64, values: [u64; 3]) -> bool {
+// Whether it has this number, and these values.
+pub(crate) fn is(given: Answer, number: u64, values: [u64; 3]) -> bool {
     if given.number() as u64 != number {
         return false;
     }

@@ -3,6 +3,7 @@ use crate::answer;
 use crate::answer::Wanted;
 use crate::buffers;
 use crate::buffers::same;
+use crate::by_records;
 use crate::counts;
 use crate::inputs;
 use crate::inputs::Lists;
@@ -139,8 +140,9 @@ fn tally(counts: &mut [usize], rows: &[u32], wanted: Wanted, agrees: bool) {
     counts::add(counts, counts::REFUSED, 1);
 }
 
-// Whether it is built as recorded: the answer, and both buffers.
+// Whether it is built as recorded: the answer, and both buffers; and so with records.
 fn is_built(
+    counts: &mut [usize],
     rows: &[u32],
     raw: &[u8],
     lists: Lists,
@@ -151,9 +153,11 @@ fn is_built(
     wanted_trailer: &[u8],
 ) -> bool {
     let given = inputs::build(rows, raw, lists, header, trailer);
+    let with_records = by_records::agrees(counts, rows, raw, lists, given, header, trailer);
     answer::holds(wanted, given, header.len(), trailer.len())
         & same(header, wanted_header)
         & same(trailer, wanted_trailer)
+        & with_records
 }
 
 // The buffers hold FILL, those for the recorded header and trailer too, which are as long.
@@ -173,6 +177,7 @@ fn compare(
     let stay = same(header, wanted_header) & same(trailer, wanted_trailer);
     let found = recorded(file, wanted, wanted_header, wanted_trailer);
     let built = is_built(
+        counts,
         rows,
         raw,
         lists,

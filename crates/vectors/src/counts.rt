@@ -1,7 +1,7 @@
 // What is counted: refusals by their numbers, and from 64 on what else there is.
 use crate::number::plus;
 
-pub const ROOM: usize = 82;
+pub const ROOM: usize = 89;
 
 pub const BUILT: usize = 64;
 
@@ -36,6 +36,23 @@ pub const BUILT_KINDS: usize = 76;
 
 // Windows, likewise.
 pub const WINDOW_KINDS: usize = 79;
+
+// Builds with custom markers.
+pub const CUSTOM: usize = 82;
+
+// Of these, the ones that were built with records too; and those that were so as by rows.
+pub const BY_RECORDS: usize = 83;
+
+pub const RECORDS_AGREE: usize = 84;
+
+// And why the others were not.
+pub const WORDS_AT_FAULT: usize = 85;
+
+pub const ROW_CUT_SHORT: usize = 86;
+
+pub const NO_SUCH_KIND: usize = 87;
+
+pub const TOO_MANY: usize = 88;
 
 // One more of this kind of sound, where the first kind is counted at k.
 pub(crate) fn add_kind(counts: &mut [usize], k: usize, dst: bool, crc: bool) {

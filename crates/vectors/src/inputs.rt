@@ -4,7 +4,7 @@ use crate::lists::list;
 use build_answer::answer::Answer;
 
 // How many words a build has before its lists.
-const WORDS: usize = 67;
+pub const WORDS: usize = 67;
 
 // Where the counts of the lists behind the pool stand.
 pub struct Lists {

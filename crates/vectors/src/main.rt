@@ -16,6 +16,8 @@ mod buffers; // buffers.rt: buffers, what they hold before a call, the first byt
 mod counts; // counts.rt: what is counted
 mod answer; // answer.rt: the recorded answer of a build
 mod inputs; // inputs.rt: the inputs of a build, and the build
+mod records; // records.rt: the rows of custom markers as records
+mod by_records; // by_records.rt: a recorded build with custom markers, built again with these as records
 mod builds; // builds.rt: a recorded build, built again
 mod frames; // frames.rt: the bytes of frames
 mod window; // window.rt: a recorded window

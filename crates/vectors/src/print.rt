@@ -57,6 +57,25 @@ fn builds(counts: &[usize]) {
     );
 }
 
+fn with_records(counts: &[usize]) {
+    put(
+        b"\nbuilds with custom markers: ",
+        get(counts, counts::CUSTOM),
+    );
+    put(
+        b"; answered through records too: ",
+        get(counts, counts::BY_RECORDS),
+    );
+    put(b"; agree: ", get(counts, counts::RECORDS_AGREE));
+    put(
+        b"\nnot through records: words at fault: ",
+        get(counts, counts::WORDS_AT_FAULT),
+    );
+    put(b"; a row cut short: ", get(counts, counts::ROW_CUT_SHORT));
+    put(b"; no such kind: ", get(counts, counts::NO_SUCH_KIND));
+    put(b"; too many markers: ", get(counts, counts::TOO_MANY));
+}
+
 fn reads(counts: &[usize]) {
     let filled = get(counts, counts::FILLED);
     let not_filled = get(counts, counts::NOT_FILLED);
@@ -77,6 +96,7 @@ pub(crate) fn totals(records: usize, counts: &[usize]) {
     put(b"records: ", records);
     text(b"\n");
     builds(counts);
+    with_records(counts);
     reads(counts);
     put(
         b"\nof builds and windows, answered by document 01 alone: ",

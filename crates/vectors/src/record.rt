@@ -13,10 +13,10 @@ use crate::unpack;
 // Room for what a build has: the words of 65,536 comments, and texts of 65,536 elements.
 const WORDS: usize = 600_000;
 
-const ROOM: usize = 66_560;
+pub const ROOM: usize = 66_560;
 
 // Room for a trailer, and for the two sides of a file that is read.
-const SIDE: usize = 8_192;
+pub const SIDE: usize = 8_192;
 
 const FILE_WORDS: usize = 2_048;
 

@@ -18,7 +18,7 @@ use Rattle.window.proofs.TestLaws.{lt-or-le}
 use Rattle.read_answer.specs.declared.answer.ReadAnswer.{ReadAnswer}
 use Rattle.read_answer.specs.declared.answer.ReadAnswer.the-variants.{Filled, Refused}
 use Rattle.file_read.specs.Read.{Request, readVerdict, fileWith, Reading, Reads}
-use Rattle.old_readers.specs.Premises.{AcceptedBuild, Call, Given, IfAccepted, AllGiven, readBy, readsOf}
+use Rattle.old_readers.specs.Premises.{AcceptedBuild, Call, WasGiven, IfAccepted, AllGiven, readBy, readsOf}
 use Rattle.worked_reads.specs.Instance.{WorkedRead, blank, holdingBy}
 
 -- bytes that are stored over the front of a buffer: those that fit, and what stays
@@ -47,7 +47,7 @@ module _ (b : AcceptedBuild) (fs : List Frame) (file : List ℕ) where
     pub taken : readVerdict q room ≡ verdict.Accepted
     pub many : count ≡ min room (length (fileWith q room) - q .offset)
     pub shows : window (fileWith q room) (q .offset) room ≡ window file (q .offset) room
-    pub given : Given b fs q room
+    pub given : WasGiven b fs q room
 
   -- of a read with this answer; of a refused one the verdict
   abbrev pub Computes : Request → ℕ → ReadAnswer → Type 0

@@ -17,7 +17,7 @@ use Rattle.file_tree.specs.File.{trailerOf}
 use Rattle.build_answer.specs.declared.answer.Answer.the-variants.{Built}
 use Rattle.assemble.specs.Build.{Builds}
 use Rattle.dsdiff.proofs.WholeLaws.{whole}
-use Rattle.old_readers.specs.Premises.{AcceptedBuild, Call, Recorded, readsOf}
+use Rattle.old_readers.specs.Premises.{AcceptedBuild, Call, Recorded, AllGiven, readsOf}
 use Rattle.old_readers.specs.OldReaders.{fileBytes, gathered, OldReaders}
 use Rattle.old_readers.proofs.OldReadersProof.{every-list-of-reads}
 use Rattle.worked_reads.specs.Instance.{WorkedRead, Instance, Worked, blank, headerWithSpare, requiredNames, allNames, workedFile, bufferAfter}
@@ -69,11 +69,12 @@ module _ (w : Instance) where
     abbrev pub workedCalls : List Call
     workedCalls = callsOf workedBuild (w .frames) (workedFile w) (w .reads) (c .reads)
 
+    given : AllGiven workedBuild (w .frames) workedCalls
+    given = all-given workedBuild (w .frames) (workedFile w) (w .reads) (c .reads)
+
     -- demand 3, of this build and these calls
     old-readers : OldReaders workedBuild (w .frames) workedCalls
-    old-readers =
-        every-list-of-reads workedBuild (w .frames) (c .recorded) workedCalls
-        (all-given workedBuild (w .frames) (workedFile w) (w .reads) (c .reads))
+    old-readers = every-list-of-reads workedBuild (w .frames) (c .recorded) workedCalls given
 
     is-file : fileBytes workedBuild (w .frames) ≡ workedFile w
     is-file = whole (w .inputs) _ _ (c .built) refl (w .frames) (c .recorded .fits)
@@ -97,6 +98,10 @@ module _ (w : Instance) where
       outs = called workedBuild (w .frames) (workedFile w) (λ (c : Call). c .out) (λ (r : WorkedRead). blank (r .room)) (λ r a. refl) (w .reads) (c .reads);
       lasts = called workedBuild (w .frames) (workedFile w) (λ (c : Call). c .last) (bufferAfter w) (λ r a. refl) (w .reads) (c .reads);
       answers = called workedBuild (w .frames) (workedFile w) (λ (c : Call). c .answer) (λ (r : WorkedRead). r .answer) (λ r a. refl) (w .reads) (c .reads);
+      header = refl;
+      trailer = refl;
+      recorded = c .recorded;
+      given = given;
       demand-3 = old-readers;
       gathers = gathers;
       required-names = c .required-names;

@@ -14,11 +14,11 @@ use Rattle.tree.specs.Value.{dsdiff}
 use Rattle.tree.specs.Gather.{window, Holds}
 use Rattle.dst.specs.Frame.{Frame}
 use Rattle.build_options.specs.Inputs.{Inputs}
-use Rattle.file_tree.specs.File.{headerOf, fileOf}
+use Rattle.file_tree.specs.File.{headerOf, trailerOf, fileOf}
 use Rattle.read_answer.specs.declared.answer.ReadAnswer.{ReadAnswer}
 use Rattle.read_answer.specs.declared.answer.ReadAnswer.the-variants.{Filled, Refused}
 use Rattle.file_read.specs.Read.{Request}
-use Rattle.old_readers.specs.Premises.{AcceptedBuild, Call}
+use Rattle.old_readers.specs.Premises.{AcceptedBuild, Call, Recorded, AllGiven}
 use Rattle.old_readers.specs.OldReaders.{gathered, OldReaders}
 
 -- a read: what it is given, the length of its buffer, and its answer
@@ -96,6 +96,10 @@ module _ (w : Instance) where
     pub outs : map (λ (c : Call). c .out) cs ≡ map (λ (r : WorkedRead). blank (r .room)) (w .reads)
     pub lasts : map (λ (c : Call). c .last) cs ≡ map bufferAfter (w .reads)
     pub answers : map (λ (c : Call). c .answer) cs ≡ map (λ (r : WorkedRead). r .answer) (w .reads)
+    pub header : b .headerBuffer ≡ headerWithSpare (w .inputs)
+    pub trailer : b .trailerBuffer ≡ trailerOf (w .inputs)
+    pub recorded : Recorded (b .inputs) (w .frames)
+    pub given : AllGiven b (w .frames) cs
     pub demand-3 : OldReaders b (w .frames) cs
     pub gathers : Holds (gathered cs) workedFile
     pub required-names : read (dsdiff (requiredNames (w .soundNames))) workedFile ≡ some (record { reports = w .requiredReports; end = w .end })

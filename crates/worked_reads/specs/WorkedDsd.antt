@@ -87,7 +87,7 @@ dsdRequest offset contents = record {
   contents = contents;
 }
 
--- in the header, up to the middle of PROP's size
+-- in the header, into PROP's size
 abbrev pub inHeader : WorkedRead
 inHeader = record { request = dsdRequest 0 []; room = 41; answer = Filled 41 }
 

@@ -13,7 +13,7 @@ use Rattle.chunk.proofs.AppendLaws.{_then_, none}
 use Rattle.tree.proofs.TreeLaws.{bytes-each-cons, bytes-each-append}
 use Rattle.markers.specs.Marker.{mark}
 use Rattle.track_markers.specs.Program.{program}
-use Rattle.tracks.specs.Track.{spans, clipped, endAfter, some}
+use Rattle.tracks.specs.Track.{spans, clipped, endAfter, anySpans}
 use Rattle.track_markers.proofs.ProgramLaws.{opened, opened-next, some-next, end-next, track-markers}
 use Rattle.tracks.proofs.TrackLaws.{spans-all, clipped-next, span-there}
 use Rattle.track_markers.proofs.program.program.Statement.{statement}
@@ -22,14 +22,14 @@ use Rattle.track_markers.proofs.program.program.Tie as tie
 abbrev Inv-loop : tie.InvT-loop
 Inv-loop out₀ pool raw tracks how first end titles done₀ n i₀ out done i =
     let xs = clipped first end (take i (spans tracks)) in
-    (i ≤ n) × (n < 2 ^ 63) × (length out ≡ length out₀) × (done .pending ≡ some xs) × (done .stop ≡ endAfter 0 xs)
+    (i ≤ n) × (n < 2 ^ 63) × (length out ≡ length out₀) × (done .pending ≡ anySpans xs) × (done .stop ≡ endAfter 0 xs)
     × Appended out₀ (done₀ .end .at) (bytes (each (mark pool raw how) (opened titles false 0 xs))) out (done .end .at)
 
 abbrev μ-loop : tie.MeasureT-loop
 μ-loop out₀ pool raw tracks how first end titles done₀ n i₀ out done i = n - i
 
 loop-holds : tie.Need-loop-holds Inv-loop μ-loop
-unfolding clipped flatMap some endAfter opened bytes each
+unfolding clipped flatMap anySpans endAfter opened bytes each
 loop-holds c = (search needs, search needs, search needs, refl, refl, none (search needs) (search needs))
 
 loop-again : tie.Need-loop-again Inv-loop μ-loop

@@ -1,4 +1,4 @@
--- `marker::build_table` meets its contract: as many markers as the table has rows for are its first rows; more are refused. Assumes nothing.
+-- `build_table` meets its contract: as many markers as the table has rows for are its first rows; more are refused. Assumes nothing.
 use mathlib.Core.Path.{_≡_, refl}
 use mathlib.Core.Logic.{⊎-elim}
 use mathlib.Core.List.{List}
@@ -11,8 +11,8 @@ use Rattle.build_options.specs.Inputs.{Inputs, inputsOf}
 use Rattle.dsdiff.specs.Marker.{lookedAt}
 use Rattle.assemble.proofs.BuildLaws.{refused}
 use Rattle.dsdiff.proofs.TableLaws.{looked, looked-none, by-rows, many-refused}
-use Rattle.dsdiff.proofs.marker.build_table.Statement.{statement}
-use Rattle.dsdiff.proofs.marker.build_table.Tie as tie
+use Rattle.dsdiff.proofs.build_table.Statement.{statement}
+use Rattle.dsdiff.proofs.build_table.Tie as tie
 
 returns : tie.Need-returns
 returns c =

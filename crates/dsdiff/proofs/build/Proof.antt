@@ -1,4 +1,4 @@
--- `marker::build` meets its contract: a walk of its MIR, by hand. The table is a local array: it is made, lent to `unpack`, comes back filled, is shared with `build_table`, and comes back to be freed.
+-- `build` meets its contract: a walk of its MIR, by hand. The table is a local array: it is made, lent to `unpack`, comes back filled, is shared with `build_table`, and comes back to be freed.
 -- All parameters but `markers` go to `build_table`, `header` and `trailer` for good; nothing is kept of the others at the exit.
 -- The machine values of the parameters that are handed over by value, and the array's list at the start with its machine value, are variables up to the last step: antt opens none of them.
 -- Assumes nothing.
@@ -78,14 +78,14 @@ use Rattle.dsdiff.proofs.marker.unpack as unpack
 use Rattle.dsdiff.proofs.marker.unpack.Symbol as unpack-def
 use Rattle.dsdiff.proofs.marker.unpack.Symbol.{name as #dsdiff·marker·unpack}
 use Rattle.dsdiff.proofs.marker.unpack.Met as unpack-thm
-use Rattle.dsdiff.proofs.marker.build_table as rows
-use Rattle.dsdiff.proofs.marker.build_table.Symbol as rows-def
-use Rattle.dsdiff.proofs.marker.build_table.Symbol.{name as #dsdiff·marker·build-table}
-use Rattle.dsdiff.proofs.marker.build_table.Met as rows-thm
-use Rattle.dsdiff.proofs.marker.build.Key.{name as #dsdiff·marker·build}
-use Rattle.dsdiff.proofs.marker.build as build
-use Rattle.dsdiff.proofs.marker.build.Statement as stated
-use Rattle.dsdiff.proofs.marker.build.Code as code
+use Rattle.dsdiff.proofs.build_table as rows
+use Rattle.dsdiff.proofs.build_table.Symbol as rows-def
+use Rattle.dsdiff.proofs.build_table.Symbol.{name as #dsdiff·build-table}
+use Rattle.dsdiff.proofs.build_table.Met as rows-thm
+use Rattle.dsdiff.proofs.build.Key.{name as #dsdiff·build}
+use Rattle.dsdiff.proofs.build as build
+use Rattle.dsdiff.proofs.build.Statement as stated
+use Rattle.dsdiff.proofs.build.Code as code
 
 abbrev Table : RattleType
 Table = Array u32 262140
@@ -197,7 +197,7 @@ module _ {M : Type 1} (𝓤 : URA M) (H : Heap 𝓤) (A : Atoms 𝓤) (W : Given
       nothing ! $ fjoin ! $ nothing ! $ fjoin ! $ nothing ! $ fjoin ! $ nothing ! $ fjoin ! $ nothing ! $ fjoin ! $ nothing ! $ fjoin ! $ nothing ! $ fjoin ! $
       nothing ! $ fjoin ! $ nothing ! $ fjoin ! $ nothing ! $ fjoin ! $ nothing ! $ fjoin ! $ nothing ! $ fjoin ! $ nothing ! $ fjoin ! $ done !
 
-  module _ (C : Calls 𝓤 H) (Λ : Loops 𝓤 H) (fm : FmC 𝓤 H (W .laws) C) (known-unpack : Triple 𝓤 (C #dsdiff·marker·unpack) (Unpack 𝓤 H A mem run)) (known-rows : Triple 𝓤 (C #dsdiff·marker·build-table) (Rows 𝓤 H A mem run)) where
+  module _ (C : Calls 𝓤 H) (Λ : Loops 𝓤 H) (fm : FmC 𝓤 H (W .laws) C) (known-unpack : Triple 𝓤 (C #dsdiff·marker·unpack) (Unpack 𝓤 H A mem run)) (known-rows : Triple 𝓤 (C #dsdiff·build-table) (Rows 𝓤 H A mem run)) where
     walk : Is Ar.the-row area (va ∷ []) → Is Op.the-row options (vo ∷ []) → Is (Array Pc.the-row 5) propertyOrder (vp ∷ []) → Is (Array Ic.the-row 4) infoOrder (vi ∷ []) → Is (Array Lc.the-row 5) localOrder (vl ∷ []) → localCount < 2 ^ 32
         → Room u32 (length (pool .now)) → Room u8 (length (bytes .now)) → Room u32 (length (tracks .now)) → Room T.the-row (length (markers .now)) → Room u32 (length (comments .now)) → Room u32 (length (callers .now)) → Room u32 (length (lengths .now)) → Room u8 (length (header .now)) → Room u8 (length (trailer .now))
         → ent 𝓤 (onEntry 𝓤 H A build.signature (κ₀, (κ₁, (κ₂, (κ₃, (κ₄, (κ₅, (κ₆, (κ₇, (κ₈, tt))))))))) (q₀, (q₁, (q₂, (q₃, (q₄, (q₅, (q₆, (q₇, (q₈, tt))))))))) a vals) (WpFn 𝓤 H C Λ code.function (va ∷ vo ∷ vp ∷ vi ∷ vl ∷ vint w32 localCount ∷ v-pool ∷ v-bytes ∷ v-tracks ∷ v-markers ∷ v-comments ∷ v-callers ∷ v-lengths ∷ v-header ∷ v-trailer ∷ []) Post)
@@ -309,7 +309,7 @@ module _ {M : Type 1} (𝓤 : URA M) (H : Heap 𝓤) (A : Atoms 𝓤) (W : Given
         by ! (exits r₁ w₁ (os .1 .1 .1 .1 .1 .1 .1 .1 .1 .1 .1 .1 .1 .1 .0) (os .1 .1 .1 .1 .1 .1 .1 .1 .1 .1 .1 .1 .1 .1 .1 .0) lh lt (e (markers .now) (is ∙ ap (λ (s : List ℕ). filled s 0 (markers .now)) start-is) refl))))))))))))))))))))))))))))))))))))))))))))
 
 module _ {M : Type 1} (𝓤 : URA M) (H : Heap 𝓤) (A : Atoms 𝓤) (W : Given 𝓤 H A) (mem : Memory → SProp 𝓤) (run : Routine → Fun 𝓤) (𝓣 : Tables 𝓤 H)
-    (known-unpack : Triple 𝓤 (𝓣 .C #dsdiff·marker·unpack) (Unpack 𝓤 H A mem run)) (known-rows : Triple 𝓤 (𝓣 .C #dsdiff·marker·build-table) (Rows 𝓤 H A mem run)) where
+    (known-unpack : Triple 𝓤 (𝓣 .C #dsdiff·marker·unpack) (Unpack 𝓤 H A mem run)) (known-rows : Triple 𝓤 (𝓣 .C #dsdiff·build-table) (Rows 𝓤 H A mem run)) where
   build-walks : Walks 𝓤 H A build.ended stayed (WpFn 𝓤 H (𝓣 .C) (𝓣 .Λ) code.function) (build.clauses 𝓤 H A mem run)
   build-walks = walked 𝓤 H A build.ended stayed (build.clauses 𝓤 H A mem run) (WpFn 𝓤 H (𝓣 .C) (𝓣 .Λ) code.function)
       (λ κs. (LL.vals Ar.the-type Ar′.the-laws, (LL.vals Op.the-type Op′.the-laws, (array-vals (EL.vals Pc.the-type Pc′.the-laws), (array-vals (EL.vals Ic.the-type Ic′.the-laws), (array-vals (EL.vals Lc.the-type Lc′.the-laws), (uint-vals w32, (slice-vals, (slice-vals, (slice-vals, (slice-vals, (slice-vals, (slice-vals, (slice-vals, (slice-vals, (slice-vals, tt))))))))))))))))
@@ -331,7 +331,7 @@ pub build-spec : {M : Type 1} → stated.statement M
 unfolding code.routine tablesOf
 build-spec 𝓤 H 𝓜 𝓖 𝓡 =
     entered 𝓤 H (tripleOf 𝓤 H (𝓖 .A) build.signature (build.spec 𝓤 H (𝓖 .A) (𝓜 .mem) (𝓡 .run)))
-    (tables 𝓤 H 𝓜 𝓡 code.env .C) (tables 𝓤 H 𝓜 𝓡 code.env .Λ) #dsdiff·marker·build code.function (code.unfolded 𝓤 H 𝓜 𝓡)
+    (tables 𝓤 H 𝓜 𝓡 code.env .C) (tables 𝓤 H 𝓜 𝓡 code.env .Λ) #dsdiff·build code.function (code.unfolded 𝓤 H 𝓜 𝓡)
     (build-meets 𝓤 H (𝓖 .A) (givenOf 𝓤 H 𝓜 𝓖) (𝓜 .mem) (𝓡 .run) (tablesOf 𝓤 H 𝓜 (tables 𝓤 H 𝓜 𝓡 code.env))
     (cited 𝓤 H (Unpack 𝓤 H (𝓖 .A) (𝓜 .mem) (𝓡 .run)) 𝓜 𝓡 code.env #dsdiff·marker·unpack unpack-def.routine code.calls-dsdiff·marker·unpack (unpack-thm.met 𝓤 H 𝓜 𝓖 𝓡))
-    (cited 𝓤 H (Rows 𝓤 H (𝓖 .A) (𝓜 .mem) (𝓡 .run)) 𝓜 𝓡 code.env #dsdiff·marker·build-table rows-def.routine code.calls-dsdiff·marker·build-table (rows-thm.met 𝓤 H 𝓜 𝓖 𝓡)))
+    (cited 𝓤 H (Rows 𝓤 H (𝓖 .A) (𝓜 .mem) (𝓡 .run)) 𝓜 𝓡 code.env #dsdiff·build-table rows-def.routine code.calls-dsdiff·build-table (rows-thm.met 𝓤 H 𝓜 𝓖 𝓡)))
