@@ -9,7 +9,7 @@ from collections import defaultdict
 from pathlib import Path
 
 CRATES = Path(__file__).resolve().parents[2] / "crates"
-DEFINED = re.compile(r"^(?:  )?(?:(?:unfoldable|abbrev) (?:pub )?([^\s:(){}]+) :|pub (?:record|data) ([^\s:(){}]+))", re.M)
+DEFINED = re.compile(r"^(?:  )?(?:(?:unfoldable|abbrev) (?:pub )?([^\s:(){}]+) [:({]|pub (?:record|data) ([^\s:(){}]+))", re.M)
 
 homes = defaultdict(list)
 for path in sorted(CRATES.glob("*/specs/*.antt")):

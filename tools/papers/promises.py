@@ -44,21 +44,30 @@ def definitions():
         for m in re.finditer(r"^pub record (\S+).*?where\n((?:  .*\n?|--.*\n)*)", text, re.M):
             fields = re.findall(r"^  pub \S+ : (.*(?:\n    .*)*)", m.group(2), re.M)
             records.setdefault(m.group(1), []).append([" ".join(f.split()) for f in fields])
-        for m in re.finditer(r"^(?:abbrev|unfoldable) pub (\S+) : .*→ Type 0\n\1 [^=]*= (\S+)", text, re.M):
+        for m in re.finditer(r"^(?:abbrev|unfoldable) pub (\S+) : .*→ Type 0\n\1 [^=]*= (.*)", text, re.M):
             names[m.group(1)] = m.group(2)
     return records, names
 
 
 RECORDS, NAMES = definitions()
+# what an equation is to tell: the answer, a field of it, or what a lent buffer holds in the end
+TOLD = r"(?:r|r \.\S+|now \(\S+ \.exit\))"
+SOURCES = "\n".join(p.read_text(encoding="utf-8") for p in sorted(CRATES.glob("*/src/**/*.rt")))
 
 
-def is_equation(fact):
-    """`x ≡ y`, or a record all of whose fields are such; a bound on what was given, or a name that stands for a value, is allowed in it."""
-    outside = re.sub(r"\([^()]*\)", "", fact)
-    while (inner := re.sub(r"\([^()]*\)", "", outside)) != outside:
-        outside = inner
+def outside_brackets(fact):
+    while (inner := re.sub(r"\([^()]*\)", "()", fact)) != fact:
+        fact = re.sub(r"\(\)", "", inner)
+    return fact
+
+
+def is_equation(fact, left=r".+"):
+    """An equation with this on its left, or a record all of whose fields are equations; none has a condition."""
+    outside = outside_brackets(fact)
+    if "→" in outside:
+        return False
     if "≡" in outside:
-        return "→" not in outside and not re.fullmatch(r"(.*) ≡ \1", fact)
+        return bool(re.match(rf"{left} ≡ ", fact)) and not re.fullmatch(r"(.*) ≡ \1", fact)
     head = fact.split()[0]
     if head in NAMES:
         return is_equation(NAMES[head])
@@ -66,10 +75,11 @@ def is_equation(fact):
 
 
 def is_field(fact):
+    """What may stand in such a record: an equation, a bound on what was given, or the type of a value."""
     return " < 2 ^ 63" in fact or len(fact.split()) == 1 or is_equation(fact)
 
 
-def shortcomings(crate, name, signature, clauses, source):
+def shortcomings(signature, clauses):
     if clauses["requires"]:
         yield "has a `requires`"
     if not clauses["ensures"]:
@@ -78,9 +88,9 @@ def shortcomings(crate, name, signature, clauses, source):
     told = " ".join(clauses["ensures"])
     for clause in clauses["ensures"]:
         fact = re.fullmatch(r"λ \w+\. ⌜ (.*) ⌝", clause)
-        if not fact or not is_equation(fact.group(1)):
+        if not fact or not is_equation(fact.group(1), TOLD):
             yield f"promises what is no equation: {clause[:90]}"
-    for lent in re.findall(r"(\w+): &mut", signature):
+    for lent in re.findall(r"(\w+): &(?:'\w+ )?mut", signature):
         if f"({lent} .exit)" not in told and f"(«{lent}» .exit)" not in told:
             yield f"does not say what `{lent}` holds in the end"
     answer = re.search(r"-> (\S.*)", signature)
@@ -88,7 +98,7 @@ def shortcomings(crate, name, signature, clauses, source):
     if answer and not re.search(r"\br\b", told.replace("λ r.", "")):
         yield "does not say what it answers"
     if answer and by_field and not re.search(r"\br(?! \.)\b", told.replace("λ r.", "")):
-        struct = re.search(r"pub struct " + re.escape(answer.group(1)) + r" \{(.*?)\n\}", source, re.S)
+        struct = re.search(r"pub struct " + re.escape(answer.group(1)) + r" \{(.*?)\n\}", SOURCES, re.S)
         for field in re.findall(r"pub (\w+):", struct.group(1) if struct else ""):
             if field not in by_field:
                 yield f"does not say `{field}` of its answer"
@@ -100,7 +110,7 @@ def main():
         program = (crate / "src" / "main.rt").exists()
         source = "\n".join(p.read_text(encoding="utf-8") for p in sorted(crate.glob("src/**/*.rt")))
         for name, signature, clauses in heads(source):
-            faults = ["is `pub`, though nothing but its program calls it"] if program else shortcomings(crate, name, signature, clauses, source)
+            faults = ["is `pub`, though nothing but its program calls it"] if program else shortcomings(signature, clauses)
             for fault in faults:
                 found += 1
                 print(f"{crate.name}: {name} {fault}")

@@ -6,7 +6,7 @@
 A table of it has a row for each file, `| [crate: specs/File](..) | lines | .. |`, and ends with `All N lines, about M minutes.`; the numbers are
 written anew (--check: only compared). A comment before a table, `<!-- reads: crate.File.name .. -->`, names statements: all that they cite, and
 what that cites, has to stand in files of the tables up to there. A file cites only files that are listed before it, unless its table stands
-after a comment `<!-- top down -->`. A table of names, `| names | file | .. |`, has all that the files of the table before it take from elsewhere.
+after a comment `<!-- top down -->`. Every file of specs/ is in just one table, but for those of private steps (PRIVATE). A table of names, `| names | file | .. |`, has all that the files of the table before it take from elsewhere.
 Exit status: 0 it holds, 1 it does not."""
 import re, sys
 from pathlib import Path
@@ -17,6 +17,8 @@ FILE = re.compile(r"^\| \[(\w+): specs/(\w+)\]\([^)]*\) \| (\d*) \|(.*)$")
 NAMES = re.compile(r"^\| (`.*`) \| \[(\w+): specs/(\w+)\]\([^)]*\) \|")
 TOTAL = re.compile(r"^All [\d,]+ lines, about \d+ minutes\.")
 LINES_A_MINUTE = 10
+PRIVATE = {"Steps", "Pass", "Table", "Measure"}
+PRIVATE_TOO = {("header_trailer", "Fill")}
 HEAD = re.compile(r"^(?:  )?(?:(?:abbrev|unfoldable) )?(?:pub )?(?:record |data )?([^\s:(){}=]+)(?= |$)")
 WORD = re.compile(r"[^\s(){}\[\],;:λ.]+")
 
@@ -65,7 +67,9 @@ def main():
     cited, faults, out = read_specs(), [], []
     files, table, named, wanted, total, top_down = set(), set(), set(), set(), 0, False
     paper = PAPER.read_text(encoding="utf-8").split("\n")
-    listed = {m.group(1, 2) for line in paper if (m := FILE.match(line))}
+    rows = [m.group(1, 2) for line in paper if (m := FILE.match(line))]
+    listed, there = set(rows), {(c, f) for c, f, _ in cited if f not in PRIVATE} - PRIVATE_TOO
+    faults += [f"lacks {c}: specs/{f}" for c, f in sorted(there - listed)] + [f"has {c}: specs/{f} twice" for c, f in sorted(listed) if rows.count((c, f)) > 1]
     for line in paper:
         if m := re.match(r"<!-- reads: (.*) -->", line):
             roots = [tuple(r.split(".")) for r in m.group(1).split()]

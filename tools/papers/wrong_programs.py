@@ -6,8 +6,9 @@
 
 The first lines of an edit are `refusal: N, M` (the refusals of 01 whose condition, number, place or detail it gets wrong; an edit that spoils
 all of them alike names none) and `says: ..` (what it does). A refusal's definition is the one that hands its number to `refuseIf`, and
-01's words are quoted in the comments of specs/ as `7: "Channels aren't 1 to 6"`.
-Exit status: 0 all is well; 1 a table differs, or a refusal lacks its words, its definition or a wrong program, or an edit says nothing."""
+01's words are quoted in the comments of specs/ as `7: "Channels aren't 1 to 6"`; whether they are 01's own is for a reader to see, who has 01.
+README's number of wrong programs is held too.
+Exit status: 0 all is well; 1 a table or the number differs, or a refusal lacks its words, its definition or a wrong program, or an edit says nothing."""
 import re, sys, textwrap
 from pathlib import Path
 
@@ -77,6 +78,11 @@ def quoted():
     return found
 
 
+def linked(where):
+    crate, file = where
+    return f"[{crate}: specs/{file}](../crates/{crate}/specs/{file}.antt)"
+
+
 def refusals_table(all_edits, problems):
     rows, found, quotes = ["| number | 01's words | definition | wrong programs |", "|---|---|---|---|"], defined(), quoted()
     for number in REFUSALS:
@@ -85,7 +91,8 @@ def refusals_table(all_edits, problems):
         wrong = [f"{crate}/{label}" for crate, label, numbers, _, _ in all_edits if number in numbers]
         lacks = {"definition": places, "words of 01 in the file of its definition": words, "wrong program": wrong}
         problems += [f"refusal {number} has no {what}" for what, there in lacks.items() if not there]
-        named = [f"`{name}` ({crate}: specs/{file})" for (crate, file), name in places]
+        named = [f"`{name}` ({linked(where)})" for where, name in places]
+        named += [f"more of it in {linked(where)}" for n, where in quotes if n == number and where not in [at for at, _ in places]]
         rows.append(f"| {number} | {''.join(words[:1])} | {'; '.join(named)} | {', '.join(wrong)} |")
     return "\n".join(rows)
 
@@ -113,6 +120,8 @@ def main():
             problems.append(f"docs/PROOFS.md has no place for the {name}: its marks are missing")
         elif before != text and "--check" in sys.argv:
             problems.append(f"docs/PROOFS.md: the {name} differ from the edits and definitions; run tools/papers/wrong_programs.py")
+    if f" {len(all_edits)} wrong programs" not in (ROOT / "README.md").read_text(encoding="utf-8"):
+        problems.append(f"README.md has another number of wrong programs than {len(all_edits)}")
     if "--check" not in sys.argv and text != paper:
         PAPER.write_text(text, encoding="utf-8")
     print("\n".join(problems), end="\n" * bool(problems))

@@ -48,7 +48,7 @@ module _ (q : Request) (room : ℕ) where
   abbrev pub neededFor : Positions
   neededFor = needed (q .format) (q .lengths) (length (q .header)) (q .offset) room
 
-  -- 43: "the lent lengths or byte counts aren't those of the needed positions"
+  -- 43: "Read: the lent lengths or byte counts aren't those of the needed positions (plain content for DSD or CRC, DST bytes for DST, otherwise empty)"
   abbrev pub lentFault : Verdict
   lentFault = refuseIf (not (isLentFor (q .format) (q .lengths) neededFor (q .lent) (q .frames) (q .contents))) 43 0
 

@@ -67,6 +67,9 @@ fn with_records(counts: &[usize]) {
         get(counts, counts::BY_RECORDS),
     );
     put(b"; agree: ", get(counts, counts::RECORDS_AGREE));
+}
+
+fn without_records(counts: &[usize]) {
     put(
         b"\nnot through records: words at fault: ",
         get(counts, counts::WORDS_AT_FAULT),
@@ -97,6 +100,7 @@ pub(crate) fn totals(records: usize, counts: &[usize]) {
     text(b"\n");
     builds(counts);
     with_records(counts);
+    without_records(counts);
     reads(counts);
     put(
         b"\nof builds and windows, answered by document 01 alone: ",
