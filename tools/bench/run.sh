@@ -1,11 +1,11 @@
 #!/bin/sh
 # Times builds and reads of whole files by this repository's compiled library and by the original Rust, side by side:
-#   run.sh [--request DIR] [--library FILE]
+#   run.sh [--request DIR] [--library FILE] [--only builds]
 # README.md says what is timed. Status: 0 it ran, 1 the bytes of the two differ, 2 something could not be run.
 set -eu
 
 usage() {
-    echo "usage: run.sh [--request DIR] [--library FILE]" >&2
+    echo "usage: run.sh [--request DIR] [--library FILE] [--only builds]" >&2
     exit 2
 }
 
@@ -14,12 +14,17 @@ root=$(cd "$here/../.." && pwd)
 . "$root/tools/library/prepare.sh"
 request=$root/../shared
 library=
+only=
 
 while [ $# -gt 0 ]; do
     [ $# -ge 2 ] || usage
     case $1 in
         --request) request=$2 ;;
         --library) library=$2 ;;
+        --only)
+            [ "$2" = builds ] || usage
+            only=$2
+            ;;
         *) usage ;;
     esac
     shift 2
@@ -29,6 +34,6 @@ prepare
 build bench
 
 status=0
-"$root/target/bench/release/bench" || status=$?
+"$root/target/bench/release/bench" ${only:+--only "$only"} || status=$?
 [ "$status" -le 1 ] || failed "the program ended with status $status"
 exit "$status"

@@ -22,10 +22,7 @@ fn caller_chunk(c: Cursor, out: &mut [u8], raw: &[u8], row: &[u32]) -> Cursor
     };
     let first = data.first(raw.len());
     let end = data.end(raw.len());
-    let size = (end - first) as u64;
-    let c = c.chunk_head(out, name, size);
-    let c = c.bytes(out, &raw[first..end]);
-    c.pad(out, size)
+    c.chunk(out, name, &raw[first..end])
 }
 
 // The chunks of all whole rows.

@@ -9,6 +9,10 @@ use lib.ListN.{length, set, take, drop, length-set, length-append, take-append-d
 use lib.Seq.{take-all, length-take-le, set-out, sets, sets-eq, paste}
 use Rattle.chunk.specs.Append.{overlay, moved, Appended}
 
+-- a place moved on twice
+pub moved-moved : (a m n : ℕ) → moved (moved a m) n ≡ moved a (m + n)
+moved-moved a m n = omega arith
+
 pub length-overlay : (xs : List ℕ) (a : ℕ) (bs : List ℕ) → length (overlay xs a bs) ≡ length xs
 unfolding overlay
 length-overlay xs a [] = refl
@@ -83,6 +87,16 @@ _then_ {xs} {ys} {zs} {bs} {cs} {a} {b} {c} p q = record {
       ∙ overlay-moved (overlay xs a bs) a (length bs) cs (omega (arith, p .short, length-overlay xs a bs))
       ∙ overlay-append xs a bs cs;
 }
+
+-- what is appended where the cursor can move no further changes nothing
+pub overrun : (bs cs : List ℕ) {xs ys : List ℕ} {a b : ℕ} → 2 ^ 64 - 1 ≤ length bs → Appended xs a (bs ++ cs) ys b → Appended xs a bs ys b
+overrun bs cs {xs} {ys} {a} {b} h p =
+    let both = length-append bs cs in
+    record {
+      short = p .short;
+      place = omega (arith, p .place, both, h);
+      buffer = p .buffer ∙ overlay-front xs a bs cs (omega (arith, p .short, h));
+    }
 
 -- nothing appended
 pub none : {xs : List ℕ} {a : ℕ} → length xs < 2 ^ 63 → a < 2 ^ 64 → Appended xs a [] xs a

@@ -1,7 +1,6 @@
 // The comments of a file: the chunk COMT.
 ghost use mathlib.Core.Path.{_≡_};
 ghost use mathlib.Core.List.{_++_, flatMap};
-ghost use Prim.Native.Nat.{_<_, _+_, _^_};
 ghost use lib.ListN.{length};
 ghost use Rattle.chunk.specs.Append.{Appended};
 ghost use Rattle.chunk.specs.Number.{be};
@@ -29,12 +28,6 @@ pub struct Comment {
     pub kind: u32, // 0 general, 1 channel, 2 sound source, 3 file history
     pub reference: u32,
     pub text: Extent,
-}
-
-// How far comments were written, and how many were.
-struct Comments {
-    end: Cursor,
-    count: usize,
 }
 
 // The comment of a row.
@@ -90,18 +83,21 @@ fn comment_head(c: Comment) -> [u8; 10]
 pub fn comt(c: Cursor, out: &mut [u8], pool: &[u32], rows: &[u32], options: TextOptions) -> Cursor
     ensures { λ r. ⌜ Appended (now (out .entry)) (c .at) (comt (now (pool .entry)) (now (rows .entry)) options) (now (out .exit)) (r .at) ⌝ }
 {
-    let mut empty = [0u8; 0];
-    let start = Cursor::new();
-    let measured = comt_data(start, &mut empty, 0, pool, rows, options);
-    let count = measured.count;
+    let count = comments_count(pool, rows, options);
     if !((count != 0) & (count <= MOST_COMMENTS)) {
         return c;
     }
-    let size = measured.end.at as u64;
-    let c = c.chunk_head(out, *b"COMT", size);
-    let written = comt_data(c, out, count as u16, pool, rows, options);
-    let c = written.end;
-    c.pad(out, size)
+    let size_at = c.name(out, *b"COMT");
+    let from = size_at.data_start(out.len());
+    let end = comt_data(
+        Cursor::new(),
+        &mut out[from..],
+        count as u16,
+        pool,
+        rows,
+        options,
+    );
+    size_at.close(out, end)
 }
 
 // The data: the count, and the comments.
@@ -112,12 +108,41 @@ fn comt_data(
     pool: &[u32],
     rows: &[u32],
     options: TextOptions,
-) -> Comments
-    ensures { λ r. ⌜ Appended (now (out .entry)) (c .at) (be 2 count ++ flatMap commentBytes (writtenComments (now (pool .entry)) (now (rows .entry)) options)) (now (out .exit)) (r .end .at) ⌝ }
-    ensures { λ r. ⌜ r .count ≡ length (writtenComments (now (pool .entry)) (now (rows .entry)) options) ⌝ }
+) -> Cursor
+    ensures { λ r. ⌜ Appended (now (out .entry)) (c .at) (be 2 count ++ flatMap commentBytes (writtenComments (now (pool .entry)) (now (rows .entry)) options)) (now (out .exit)) (r .at) ⌝ }
 {
     let c = c.be16(out, count);
     written_comments(c, out, pool, rows, options)
+}
+
+// How many comments are written, of all whole rows.
+fn comments_count(pool: &[u32], rows: &[u32], options: TextOptions) -> usize
+    ensures { λ r. ⌜ r ≡ length (writtenComments (now (pool .entry)) (now (rows .entry)) options) ⌝ }
+{
+    let n = rows.len() / WORDS;
+    let mut count = 0;
+    let mut i = 0;
+    while i < n {
+        let at = i * WORDS;
+        let end = at + WORDS;
+        let c = comment_of(&rows[at..end]);
+        count += one_if_written(pool, c, options);
+        i += 1;
+    }
+    count
+}
+
+// 1 if a comment is written, else 0.
+fn one_if_written(pool: &[u32], c: Comment, options: TextOptions) -> usize
+    ensures { λ r. ⌜ r ≡ length (writtenComment (now (pool .entry)) options c) ⌝ }
+{
+    let rule = options.rule;
+    let text = c.text;
+    let count = texts::text::text_count(rule, pool, text);
+    if options.writes(count) {
+        return 1;
+    }
+    0
 }
 
 // The comments that are written, of all whole rows.
@@ -127,21 +152,39 @@ fn written_comments(
     pool: &[u32],
     rows: &[u32],
     options: TextOptions,
-) -> Comments
-    ensures { λ r. ⌜ Appended (now (out .entry)) (c .at) (flatMap commentBytes (writtenComments (now (pool .entry)) (now (rows .entry)) options)) (now (out .exit)) (r .end .at) ⌝ }
-    ensures { λ r. ⌜ r .count ≡ length (writtenComments (now (pool .entry)) (now (rows .entry)) options) ⌝ }
+) -> Cursor
+    ensures { λ r. ⌜ Appended (now (out .entry)) (c .at) (flatMap commentBytes (writtenComments (now (pool .entry)) (now (rows .entry)) options)) (now (out .exit)) (r .at) ⌝ }
 {
-    let mut done = Comments { end: c, count: 0 };
     let n = rows.len() / WORDS;
+    let mut p = c;
     let mut i = 0;
     while i < n {
         let at = i * WORDS;
         let end = at + WORDS;
         let c = comment_of(&rows[at..end]);
-        done = done.add(out, pool, c, options);
+        p = written_comment(p, out, pool, c, options);
         i += 1;
     }
-    done
+    p
+}
+
+// A comment, if it is written.
+fn written_comment(
+    p: Cursor,
+    out: &mut [u8],
+    pool: &[u32],
+    c: Comment,
+    options: TextOptions,
+) -> Cursor
+    ensures { λ r. ⌜ Appended (now (out .entry)) (p .at) (flatMap commentBytes (writtenComment (now (pool .entry)) options c)) (now (out .exit)) (r .at) ⌝ }
+{
+    let rule = options.rule;
+    let text = c.text;
+    let count = texts::text::text_count(rule, pool, text);
+    if !options.writes(count) {
+        return p;
+    }
+    comment_bytes(p, out, count, pool, c, rule)
 }
 
 // A comment with its text and the pad after an odd one.
@@ -160,26 +203,4 @@ fn comment_bytes(
     let p = p.bytes(out, &head);
     let p = texts::text::counted_text(p, out, count, rule, pool, text);
     p.pad(out, count as u64)
-}
-
-impl Comments {
-    // One comment more, if it is written.
-    fn add(self, out: &mut [u8], pool: &[u32], c: Comment, options: TextOptions) -> Comments
-        requires { ⌜ self .count < 2 ^ 63 ⌝ }
-        ensures { λ r. ⌜ Appended (now (out .entry)) (self .end .at) (flatMap commentBytes (writtenComment (now (pool .entry)) options c)) (now (out .exit)) (r .end .at) ⌝ }
-        ensures { λ r. ⌜ r .count ≡ self .count + length (writtenComment (now (pool .entry)) options c) ⌝ }
-    {
-        let rule = options.rule;
-        let text = c.text;
-        let count = texts::text::text_count(rule, pool, text);
-        if !options.writes(count) {
-            return self;
-        }
-        let end = self.end;
-        let end = comment_bytes(end, out, count, pool, c, rule);
-        Comments {
-            end: end,
-            count: self.count + 1,
-        }
-    }
 }

@@ -52,13 +52,10 @@ fn given_text(
     if !options.writes(count) {
         return c;
     }
-    let mut empty = [0u8; 0];
-    let start = Cursor::new();
-    let end = diin_text_data(start, &mut empty, count, pool, text, options);
-    let size = end.at as u64;
-    let c = c.chunk_head(out, id, size);
-    let c = diin_text_data(c, out, count, pool, text, options);
-    c.pad(out, size)
+    let size_at = c.name(out, id);
+    let from = size_at.data_start(out.len());
+    let end = diin_text_data(Cursor::new(), &mut out[from..], count, pool, text, options);
+    size_at.close(out, end)
 }
 
 // The data: the count, the text, and its pad if that is counted.

@@ -4,9 +4,6 @@ use Prim.Native.Nat.{ℕ, _+_, _^_, _<_}
 use native.Mathlib.Omega.{arith}
 use Rattle.chunk.specs.Append.{moved}
 
-pub moved-moved : (a m n : ℕ) → moved (moved a m) n ≡ moved a (m + n)
-moved-moved a m n = omega arith
-
 pub moved-fits : (a n : ℕ) → a + n < 2 ^ 64 → moved a n ≡ a + n
 moved-fits a n h = omega arith
 

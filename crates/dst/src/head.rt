@@ -1,19 +1,28 @@
 // The DST chunk up to its first frame.
 ghost use Rattle.chunk.specs.Append.{Appended};
-ghost use Rattle.dst.specs.Head.{frte, head};
+ghost use Rattle.dst.specs.Head.{rate, frte, head};
 use crate::unit::data_size;
 use chunk::Cursor;
 
 // Frames a second.
 const FRAME_RATE: u16 = 75;
 
-// FRTE: the number of frames and their rate.
+// The data of FRTE: the number of frames and their rate.
+fn rate(c: Cursor, out: &mut [u8], frames: u32) -> Cursor
+    ensures { λ r. ⌜ Appended (now (out .entry)) (c .at) (rate frames) (now (out .exit)) (r .at) ⌝ }
+{
+    let c = c.be32(out, frames);
+    c.be16(out, FRAME_RATE)
+}
+
+// FRTE.
 fn frte(c: Cursor, out: &mut [u8], frames: u32) -> Cursor
     ensures { λ r. ⌜ Appended (now (out .entry)) (c .at) (frte frames) (now (out .exit)) (r .at) ⌝ }
 {
-    let c1 = c.chunk_head(out, *b"FRTE", 6);
-    let c2 = c1.be32(out, frames);
-    c2.be16(out, FRAME_RATE)
+    let size_at = c.name(out, *b"FRTE");
+    let from = size_at.data_start(out.len());
+    let end = rate(Cursor::new(), &mut out[from..], frames);
+    size_at.close(out, end)
 }
 
 // The header of the DST chunk, and FRTE.

@@ -4,16 +4,18 @@ use mathlib.Core.Bool.{Bool, cond}
 use mathlib.Core.List.{List, [], _∷_, _++_, flatMap, append-assoc, append-nil}
 use Prim.Native.Nat.{ℕ, zero, suc, _+_, _-_, _*_, _%_, _^_, _≤_, _<_}
 use native.Mathlib.Nat.{not-suc-le-zero, le-of-suc-le-suc, zero-add}
+use native.Mathlib.Decide.{decLt}
 use native.Mathlib.Omega.{arith}
 use lib.ListN.{length, take, drop, getD, length-append, length-map}
 use lib.Seq.{take-at, drop-at, drop-nil, drop-drop, drop-cons}
 use Rattle.chunk.specs.Append.{Appended, moved}
 use Rattle.chunk.specs.Number.{be, num}
 use Rattle.chunk_names.specs.Name.{ascii}
-use Rattle.chunk.specs.Chunk.{chunk}
+use Rattle.chunk.specs.Chunk.{chunk, pad}
 use Rattle.tree.specs.Tree.{stop, leaf, bytes}
 use Rattle.chunk.proofs.NumberLaws.{length-be, num-be}
-use Rattle.chunk.proofs.AppendLaws.{_then_, kept, overlay-out}
+use Rattle.chunk.proofs.AppendLaws.{moved-moved, _then_, kept, overlay-out, overrun}
+use Rattle.chunk.proofs.ChunkLaws.{pad-even}
 use Rattle.tree.proofs.TreeLaws.{bytes-leaf}
 use Rattle.checksum.specs.Crc.{crcOf}
 use Rattle.dst.specs.Frame.{Frame}
@@ -22,7 +24,7 @@ use Rattle.dst.specs.Start.{sum, start}
 use Rattle.dst.specs.Head.{head}
 use Rattle.dst_index.specs.Index.{shiftOf, entry, entryOf, joined, index, dsti, Stands}
 use Rattle.dst_index.specs.declared.index.DstIndexOffset.{DstIndexOffset}
-use Rattle.dst.proofs.SaturateLaws.{moved-moved, moved-zero, moved-lt, moved-fits}
+use Rattle.dst.proofs.SaturateLaws.{moved-zero, moved-lt, moved-fits}
 use Rattle.dst.proofs.UnitLaws.{length-unit, length-frte, chunk-even}
 
 -- one more
@@ -95,6 +97,17 @@ index-past crc at ls {xs = xs} {a = a} head past size e =
       place = rw (e, size, length-index) (omega arith);
       buffer = sym (overlay-out xs a (index crc at ls) past);
     }
+
+-- entries have no pad: their size is even, or such that a cursor can move no further
+pub index-unpadded : (head : List ℕ) (crc : Bool) (at : ℕ) (ls : List ℕ) {xs ys : List ℕ} {a b n : ℕ} → n ≡ moved 0 (12 * length ls)
+    → Appended xs a (head ++ index crc at ls ++ pad n) ys b → Appended xs a (head ++ index crc at ls) ys b
+index-unpadded head crc at ls {xs} {ys} {a} {b} {n} size p = go (decLt (12 * length ls) (2 ^ 64 - 1))
+  where
+    go : Dec (12 * length ls < 2 ^ 64 - 1) → Appended xs a (head ++ index crc at ls) ys b
+    go (yes l) =
+        let even : n % 2 ≡ 0 = omega (arith, size, l) in
+        rw (pad-even n even, append-nil) at p
+    go (no l) = overrun (head ++ index crc at ls) (pad n) (omega (arith, length-index crc at ls, length-append head (index crc at ls))) p
 
 pub length-head : (crc : Bool) (ls : List ℕ) → length (head crc ls) ≡ 30
 unfolding head

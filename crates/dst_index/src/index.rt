@@ -56,14 +56,14 @@ pub fn index(
     p
 }
 
-// Bytes of the entries of so many frames, at most the largest u64.
-fn index_size(frames: usize) -> u64
+// Bytes of the entries of so many frames, at most the largest usize.
+fn index_size(frames: usize) -> usize
     ensures { λ r. ⌜ r ≡ moved 0 (12 * frames) ⌝ }
 {
     if frames <= 1_537_228_672_809_129_301 {
-        return 12 * frames as u64;
+        return 12 * frames;
     }
-    u64::MAX
+    usize::MAX
 }
 
 // DSTI, where the first unit starts at `base`, from the file's start.
@@ -77,11 +77,26 @@ pub fn dsti(
 ) -> Cursor
     ensures { λ r. ⌜ Appended (now (out .entry)) (c .at) (dsti crc (moved base (shiftOf offset)) (now (lengths .entry))) (now (out .exit)) (r .at) ⌝ }
 {
-    let size = index_size(lengths.len());
-    let c = c.chunk_head(out, *b"DSTI", size);
+    let size_at = c.name(out, *b"DSTI");
+    let from = size_at.data_start(out.len());
+    let end = dsti_data(Cursor::new(), &mut out[from..], crc, offset, base, lengths);
+    size_at.close(out, end)
+}
+
+// The data: the entries. Where not a byte of them fits, they are passed at once.
+fn dsti_data(
+    c: Cursor,
+    out: &mut [u8],
+    crc: bool,
+    offset: DstIndexOffset,
+    base: u64,
+    lengths: &[u32],
+) -> Cursor
+    ensures { λ r. ⌜ Appended (now (out .entry)) (c .at) (index crc (moved base (shiftOf offset)) (now (lengths .entry))) (now (out .exit)) (r .at) ⌝ }
+{
     let at = c.at;
     if out.len() <= at {
-        return c.skip(size as usize); // nothing is written, only measured
+        return c.skip(index_size(lengths.len()));
     }
     index(c, out, crc, offset, base, lengths)
 }

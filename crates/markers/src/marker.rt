@@ -195,11 +195,8 @@ pub fn mark(c: Cursor, out: &mut [u8], pool: &[u32], raw: &[u8], how: Marking, m
     let rule = options.rule;
     let text = m.text;
     let count = marker_text_count(pool, raw, rule, text);
-    let mut empty = [0u8; 0];
-    let start = Cursor::new();
-    let end = mark_data(start, &mut empty, count, pool, raw, how, m);
-    let size = end.at as u64;
-    let c = c.chunk_head(out, *b"MARK", size);
-    let c = mark_data(c, out, count, pool, raw, how, m);
-    c.pad(out, size)
+    let size_at = c.name(out, *b"MARK");
+    let from = size_at.data_start(out.len());
+    let end = mark_data(Cursor::new(), &mut out[from..], count, pool, raw, how, m);
+    size_at.close(out, end)
 }

@@ -169,13 +169,31 @@ pub fn diin(
         (now (out .exit)) (r .at) ⌝ }
 {
     let mut empty = [0u8; 0];
-    let start = Cursor::new();
-    let end = diin_data(start, &mut empty, pool, raw, tracks, custom, order, info);
-    let size = end.at as u64;
-    if !(info.on & ((info.empty_info | (size != 0)) & (size != u64::MAX))) {
+    let measured = diin_data(
+        Cursor::new(),
+        &mut empty,
+        pool,
+        raw,
+        tracks,
+        custom,
+        order,
+        info,
+    );
+    let length = measured.at;
+    if !(info.on & ((info.empty_info | (length != 0)) & (length != usize::MAX))) {
         return c;
     }
-    let c = c.chunk_head(out, *b"DIIN", size);
-    let c = diin_data(c, out, pool, raw, tracks, custom, order, info);
-    c.pad(out, size)
+    let size_at = c.name(out, *b"DIIN");
+    let from = size_at.data_start(out.len());
+    let end = diin_data(
+        Cursor::new(),
+        &mut out[from..],
+        pool,
+        raw,
+        tracks,
+        custom,
+        order,
+        info,
+    );
+    size_at.close(out, end)
 }

@@ -152,14 +152,10 @@ fn property_chunk(c: Cursor, out: &mut [u8], p: Properties, part: PropertyChunk)
     if !is_written(p, part) {
         return c;
     }
-    let mut empty = [0u8; 0];
-    let start = Cursor::new();
-    let end = content(start, &mut empty, p, part);
-    let size = end.at as u64;
-    let id = id(part);
-    let c = c.chunk_head(out, id, size);
-    let c = content(c, out, p, part);
-    c.pad(out, size)
+    let size_at = c.name(out, id(part));
+    let from = size_at.data_start(out.len());
+    let end = content(Cursor::new(), &mut out[from..], p, part);
+    size_at.close(out, end)
 }
 
 // The data of PROP: its form, and its chunks in their order.
@@ -179,11 +175,8 @@ fn property_data(c: Cursor, out: &mut [u8], order: [PropertyChunk; 5], p: Proper
 pub fn property(c: Cursor, out: &mut [u8], order: [PropertyChunk; 5], p: Properties) -> Cursor
     ensures { λ r. ⌜ Appended (now (out .entry)) (c .at) (bytes (property order p)) (now (out .exit)) (r .at) ⌝ }
 {
-    let mut empty = [0u8; 0];
-    let start = Cursor::new();
-    let end = property_data(start, &mut empty, order, p);
-    let size = end.at as u64;
-    let c = c.chunk_head(out, *b"PROP", size);
-    let c = property_data(c, out, order, p);
-    c.pad(out, size)
+    let size_at = c.name(out, *b"PROP");
+    let from = size_at.data_start(out.len());
+    let end = property_data(Cursor::new(), &mut out[from..], order, p);
+    size_at.close(out, end)
 }

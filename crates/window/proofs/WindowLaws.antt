@@ -3,11 +3,11 @@ use mathlib.Core.Path.{_≡_, refl, sym, ap, ap₂, _∙_}
 use mathlib.Core.Logic.{_⊎_, inl, inr, ⊎-elim}
 use mathlib.Core.List.{List, [], _∷_, _++_, append-nil, append-assoc}
 use Prim.Native.Nat.{ℕ, zero, suc, _+_, _-_, _^_, _%_, _≤_, _<_, min}
-use native.Mathlib.Nat.{add-assoc, add-suc, add-zero, zero-add, mod-lt, not-suc-le-zero, le-of-suc-le-suc}
+use native.Mathlib.Nat.{add-assoc, add-zero, zero-add, mod-lt}
 use native.Mathlib.Omega.{arith, sub-cases}
-use borrow.Rule.Slice.PartMut.{midOf, postOf, putMid}
-use lib.ListN.{length, take, drop, set, replicate, length-append, length-drop, drop-of-length-le, take-append-drop}
-use lib.Seq.{take-all, take-add, take-at, drop-at, drop-drop, drop-nil, length-take-le, take-set-le, drop-set-add}
+use borrow.Rule.Slice.PartMut.{midOf, putMid}
+use lib.ListN.{length, take, drop, replicate, length-append, length-drop, drop-of-length-le}
+use lib.Seq.{take-add, take-at, drop-at, drop-drop, drop-nil, length-take-le}
 use mathlib.Core.Bool.{true, _||_}
 use borrow.Author.Tests.{eqb-true, leb-true}
 use lib.Dec.{lit<, eqb, leb}
@@ -17,6 +17,7 @@ use Rattle.chunk.proofs.ChunkLaws.{pad-even}
 use Rattle.chunk.specs.Append.{overlay, Appended}
 use Rattle.chunk.specs.Chunk.{pad, chunk}
 use Rattle.chunk.proofs.AppendLaws.{length-overlay, overlay-out, overlay-append, overlay-room, copied, _then_ as append}
+use Rattle.chunk.proofs.TailLaws.{overlay-apart, overlay-tail, tail-lent, tail-back}
 use Rattle.window.specs.declared.window.Window.{Window}
 use Rattle.window.specs.Window.{shown, after, Wrote}
 use Rattle.window.proofs.TestLaws.{either, lt-or-le}
@@ -89,25 +90,6 @@ _then_ {a} {b} {w} {v} {u} {out} {mid} {last} p q =
       place = rw (q .place, p .place, lm, length-append a b) (after-after (length a) (length b) (length out) w);
     }
 
--- two bytes stored at two places
-set-apart : (xs : List ℕ) (i p b c : ℕ) → i < p → set (set xs i b) p c ≡ set (set xs p c) i b
-set-apart [] i p b c h = refl
-set-apart (x ∷ xs) i zero b c h = absurd (not-suc-le-zero h)
-set-apart (x ∷ xs) zero (suc p) b c h = refl
-set-apart (x ∷ xs) (suc i) (suc p) b c h = ap (λ (l : List ℕ). x ∷ l) (set-apart xs i p b c (le-of-suc-le-suc h))
-
--- a byte stored before the place of an overlay
-set-overlay : (xs : List ℕ) (i b p : ℕ) (bs : List ℕ) → i < p → overlay (set xs i b) p bs ≡ set (overlay xs p bs) i b
-unfolding overlay
-set-overlay xs i b p [] h = refl
-set-overlay xs i b p (c ∷ bs) h = rw (set-apart xs i p b c h) (set-overlay (set xs p c) i b (suc p) bs (omega arith))
-
--- two overlays, the one before the other
-overlay-apart : (xs : List ℕ) (a : ℕ) (cs : List ℕ) (p : ℕ) (bs : List ℕ) → a + length cs ≤ p → overlay (overlay xs p bs) a cs ≡ overlay (overlay xs a cs) p bs
-unfolding overlay
-overlay-apart xs a [] p bs h = refl
-overlay-apart xs a (x ∷ cs) p bs h = rw (← set-overlay xs a x p bs (omega arith)) (overlay-apart (set xs a x) (suc a) cs p bs (omega arith))
-
 -- where the first of two pieces goes, if the second is there already
 first-place : (xs : List ℕ) (a : ℕ) (A B : List ℕ) → overlay (overlay xs (a + min (length A) (length xs - a)) B) a A ≡ overlay xs a (A ++ B)
 first-place xs a A B =
@@ -151,21 +133,6 @@ unseen bytes w out h =
       filled = ⊎-elim (λ s. rw (drop-of-length-le bytes s)) (λ s. sym (overlay-out out (w .at) (drop (w .skip) bytes) s)) h;
       place = ap (λ (x : ℕ). record { at = x; skip = w .skip - length bytes }) a;
     }
-
--- `&mut xs[n..]` is lent as `midOf n (length xs - n) xs`, and comes back by `putMid`
-pub tail-lent : (n : ℕ) (xs : List ℕ) → midOf n (length xs - n) xs ≡ drop n xs
-tail-lent n xs = take-all (length xs - n) (drop n xs) (rw length-drop (omega arith))
-
-tail-back : (n : ℕ) (xs ys : List ℕ) → putMid n (length xs - n) xs ys ≡ take n xs ++ ys
-tail-back n xs ys =
-    let z : postOf n (length xs - n) xs ≡ [] = let h : length (drop n xs) ≤ length xs - n = rw length-drop (omega arith) in drop-of-length-le (drop n xs) h in
-    rw (z, append-nil)
-
-overlay-tail : (a k : ℕ) (xs bs : List ℕ) → take a xs ++ overlay (drop a xs) k bs ≡ overlay xs (a + k) bs
-unfolding overlay
-overlay-tail a k xs [] = take-append-drop a xs
-overlay-tail a k xs (b ∷ bs) =
-    rw (← drop-set-add a xs k b, ← take-set-le a xs (a + k) b (omega arith), ← add-suc a k) (overlay-tail a (suc k) (set xs (a + k) b) bs)
 
 -- a piece that is put into `&mut out[at..]`
 pub tail-put : {bytes : List ℕ} {at skip : ℕ} {out part : List ℕ} {v : Window} → at ≤ length out

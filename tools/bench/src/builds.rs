@@ -3,12 +3,13 @@
 use std::hint::black_box;
 
 use library::builds::{self as ours, ANSWERS, HEADER_SHORT, TRAILER_SHORT};
-use library::checks::{Build, COMT, DIIN, DSTI, Lent, PROP, SOUND, WORDS};
+use library::checks::{Build, COMT, DIIN, DSTI, Lent, ON, PROP, SOUND, WORDS};
 use library::markers::{Info, Properties};
 use original::{Inputs, Layout};
 
 use crate::pool::CHANNELS;
 use crate::sound::Sound;
+use crate::texts::{Rows, Texts};
 use crate::timing::{best, each, timed};
 
 /// What the original's build is given. It takes the lengths, so that they are copied for each build.
@@ -18,8 +19,10 @@ pub struct Original<'a> {
 }
 
 impl<'a> Original<'a> {
-    pub fn new(sound: Sound<'a>) -> Original<'a> {
-        Original { inputs: Inputs::new(CHANNELS, sound.positions as u32, sound.crc()), sound }
+    pub fn new(sound: Sound<'a>, texts: Option<&Texts>) -> Original<'a> {
+        let inputs = Inputs::new(CHANNELS, sound.positions as u32, sound.crc());
+        let inputs = if let Some(texts) = texts { inputs.with_texts(&texts.original) } else { inputs };
+        Original { inputs, sound }
     }
 
     pub fn build(&self, lengths: Vec<u32>) -> Layout {
@@ -28,10 +31,40 @@ impl<'a> Original<'a> {
     }
 }
 
+/// The original's defaults.
+fn defaults(sound: Sound<'_>) -> Build {
+    let positions = sound.positions as u32;
+    let properties = Properties {
+        order: [0, 1, 2, 3, 4],
+        dst: sound.dst(),
+        channels: CHANNELS,
+        loudspeaker_configuration: true,
+        ..Properties::default()
+    };
+    Build {
+        properties,
+        info: Info { order: [0, 1, 2, 3], end: positions, playtime: positions, ..Info::default() },
+        dst_crc: sound.crc(),
+        dst_index: true,
+        replacement: Some(b'?'),
+        local_order: [PROP, COMT, DIIN, SOUND, DSTI],
+        local_count: 5,
+        ..Build::default()
+    }
+}
+
+/// The same with DIIN and COMT: an empty EMID, which is the original's default, and the texts.
+fn with_texts<'a>(build: Build, lent: Lent<'a>, rows: &'a Rows) -> (Build, Lent<'a>) {
+    let (emid, album_artist, album_title) = ([1, 0, 0], rows.artist, rows.title);
+    let info = Info { on: true, empty_info: true, emid, titles: true, album_artist, album_title, ..build.info };
+    let (tracks, comments) = (rows.tracks.as_flattened(), rows.comments.as_flattened());
+    (Build { info, artist_title: ON, ..build }, Lent { pool: &rows.pool, tracks, comments, ..lent })
+}
+
 /// What our build is given.
 pub struct Ours<'a> {
     words: [u32; WORDS],
-    lengths: &'a [u32],
+    lent: Lent<'a>,
 }
 
 /// The buffers of our build, and the sound's length.
@@ -42,35 +75,20 @@ pub struct Built {
 }
 
 impl<'a> Ours<'a> {
-    /// The original's defaults.
-    pub fn new(sound: Sound<'a>) -> Ours<'a> {
-        let positions = sound.positions as u32;
-        let properties = Properties {
-            order: [0, 1, 2, 3, 4],
-            dst: sound.dst(),
-            channels: CHANNELS,
-            loudspeaker_configuration: true,
-            ..Properties::default()
+    pub fn new(sound: Sound<'a>, texts: Option<&'a Texts>) -> Ours<'a> {
+        let (build, lengths) = (defaults(sound), sound.lengths());
+        let lent = Lent { pool: &[], raw: &[], tracks: &[], markers: &[], comments: &[], callers: &[], lengths };
+        let (build, lent) = match texts {
+            Some(texts) => with_texts(build, lent, &texts.ours),
+            None => (build, lent),
         };
-        let build = Build {
-            properties,
-            info: Info { order: [0, 1, 2, 3], end: positions, playtime: positions, ..Info::default() },
-            dst_crc: sound.crc(),
-            dst_index: true,
-            replacement: Some(b'?'),
-            local_order: [PROP, COMT, DIIN, SOUND, DSTI],
-            local_count: 5,
-            ..Build::default()
-        };
-        Ours { words: build.words(), lengths: sound.lengths() }
+        Ours { words: build.words(), lent }
     }
 
     /// The refusal's number, 0 if it is built, and the answer.
     fn call(&self, header: &mut [u8], trailer: &mut [u8]) -> (u64, [u64; ANSWERS]) {
-        let lengths = self.lengths;
-        let lent = Lent { pool: &[], raw: &[], tracks: &[], markers: &[], comments: &[], callers: &[], lengths };
         let mut answer = [0; ANSWERS];
-        (ours::build(black_box(&self.words), lent, header, trailer, &mut answer), answer)
+        (ours::build(black_box(&self.words), self.lent, header, trailer, &mut answer), answer)
     }
 
     /// How long the header is: what the refusal of an empty buffer tells.
@@ -106,12 +124,17 @@ pub struct Times {
     pub fresh: f64,
 }
 
+/// Builds that are timed together: fewer if there is much to go through.
+fn together(sound: Sound<'_>, texts: Option<&Texts>) -> usize {
+    let length = sound.positions + texts.map_or(0, Texts::characters);
+    (256_000 / length).clamp(1, 64)
+}
+
 /// What is built is freed after it was timed.
-pub fn times(sound: Sound<'_>) -> Times {
-    let (original, ours) = (Original::new(sound), Ours::new(sound));
+pub fn times(sound: Sound<'_>, texts: Option<&Texts>) -> Times {
+    let (original, ours) = (Original::new(sound, texts), Ours::new(sound, texts));
     let Built { mut header, mut trailer, .. } = ours.build(0);
-    // Builds that are timed together.
-    let calls = (64_000 / sound.positions).clamp(1, 64);
+    let calls = together(sound, texts);
     let times = best(|| {
         let lengths = vec![sound.lengths().to_vec(); calls];
         let mut layouts = Vec::with_capacity(calls);

@@ -10,9 +10,11 @@ use original::{Layout, RegionKind};
 use crate::builds::{Built, Original, Ours};
 use crate::pool::CHANNELS;
 use crate::sound::Sound;
+use crate::texts::Texts;
 
 pub struct File<'a> {
     pub sound: Sound<'a>,
+    pub texts: Option<&'a Texts>,
     layout: Layout,
     built: Built,
 }
@@ -34,13 +36,17 @@ pub struct Joined {
 
 impl<'a> File<'a> {
     /// The file, if both sides build the same.
-    pub fn new(sound: Sound<'a>) -> Result<File<'a>, String> {
-        let layout = Original::new(sound).build(sound.lengths().to_vec());
-        let file = File { sound, layout, built: Ours::new(sound).build(0xFF) };
+    pub fn new(sound: Sound<'a>, texts: Option<&'a Texts>) -> Result<File<'a>, String> {
+        let layout = Original::new(sound, texts).build(sound.lengths().to_vec());
+        let file = File { sound, texts, layout, built: Ours::new(sound, texts).build(0xFF) };
         if file.same_build() {
             return Ok(file);
         }
-        Err(format!("{} of {} positions: the builds are not the same", sound.name(), sound.positions))
+        Err(format!("{} of {} positions: the builds are not the same", file.name(), sound.positions))
+    }
+
+    pub fn name(&self) -> &'static str {
+        self.texts.map_or(self.sound.name(), |texts| texts.name)
     }
 
     fn same_build(&self) -> bool {

@@ -1,9 +1,11 @@
-//! Layouts of the original, from the first position on, with the options at their defaults.
+//! Layouts of the original, from the first position on, with the options at their defaults, but for texts.
 
 use crate::error::{Error, Slot};
 use crate::image::SectorFormat;
-use crate::output::{DstLengths, Format, InvalidDst, Layout, OutputOptions, SourceTrack, TagSet, Tags};
+use crate::output::{Comment, CommentKind, MarkerText, TagItem, TagSet, Tags};
+use crate::output::{DstLengths, Format, InvalidDst, Layout, OutputOptions, SourceTrack};
 use crate::toc::{Area, AreaKind, AreaPointer, AreaText, Date, DiscText, Genre, MasterToc, Timecode, Toc, Version};
+use crate::toc::{Track, TrackText};
 
 /// What the layout of a file is made from, besides the lengths of DST frames.
 pub struct Inputs {
@@ -12,10 +14,39 @@ pub struct Inputs {
     positions: u32,
 }
 
+/// The texts of a file. Comments are general, without a date.
+pub struct Texts {
+    pub tracks: Vec<TitledTrack>,
+    pub artist: String,
+    pub title: String,
+    pub comments: Vec<String>,
+}
+
+/// A track, from a position on, of so many positions.
+pub struct TitledTrack {
+    pub start: u32,
+    pub duration: u32,
+    pub title: String,
+}
+
 impl Inputs {
     pub fn new(channels: u8, positions: u32, crc: bool) -> Inputs {
         let options = OutputOptions::default().with_source_track(SourceTrack::None).with_tags(Tags::Set(TagSet::new()));
         Inputs { toc: toc(channels, positions), options: options.with_dsdiff_dst_crc(crc), positions }
+    }
+
+    /// The same with DIIN and COMT: the artist and the title, the tracks with their titles as texts of the markers, and the
+    /// comments.
+    pub fn with_texts(mut self, texts: &Texts) -> Inputs {
+        let mut tags = TagSet::new();
+        tags.set(TagItem::AlbumArtist, &texts.artist);
+        tags.set(TagItem::Album, &texts.title);
+        let comment = |text: &String| Comment::new(CommentKind::General, text);
+        let options = self.options.with_dsdiff_edited_master_info(true).with_dsdiff_artist_title(Some(true));
+        let options = options.with_tags(Tags::Set(tags)).with_dsdiff_marker_text(MarkerText::TrackTitle);
+        self.options = options.with_dsdiff_comments(texts.comments.iter().map(comment).collect());
+        self.toc.areas[0].tracks = (1..).zip(&texts.tracks).map(|(number, track)| titled(number, track)).collect();
+        self
     }
 
     /// A file of DSD sound.
@@ -28,6 +59,23 @@ impl Inputs {
         let area = &self.toc.areas[0];
         let lengths = DstLengths::from_lengths(area, 0, self.positions, InvalidDst::Stored, lengths)?;
         Layout::new_dst(&self.toc, &lengths, &self.options)
+    }
+}
+
+/// A track of the table of contents.
+fn titled(number: u8, track: &TitledTrack) -> Track {
+    let TitledTrack { start, duration, title } = track;
+    Track {
+        number,
+        start_lsn: 0,
+        length_sectors: 0,
+        start_frame: *start,
+        duration_frames: *duration,
+        start_flags: 0,
+        duration_flags: 0,
+        isrc: None,
+        genre: None,
+        text: TrackText { title: Some(title.clone()), ..TrackText::default() },
     }
 }
 

@@ -8,22 +8,48 @@ mod crc;
 mod file;
 mod parts;
 mod pool;
+mod random;
 mod reads;
 mod sound;
+mod texts;
 mod timing;
 
+use std::env;
+use std::ffi::OsString;
 use std::process::ExitCode;
 
 use file::File;
 use pool::{AREAS, CHANNELS, Pool};
 use reads::Reads;
 use sound::{KINDS, Kind, Sound};
+use texts::Texts;
 use timing::REPETITIONS;
 
 const SIZES: [usize; 3] = [4 << 10, 64 << 10, 1 << 20];
 
+/// Which tables are wanted.
+#[derive(PartialEq)]
+enum Tables {
+    All,
+    Builds,
+}
+
+/// What the program's arguments ask for; nothing if they are not as in the usage.
+fn tables() -> Option<Tables> {
+    let arguments: Vec<OsString> = env::args_os().skip(1).collect();
+    match &arguments[..] {
+        [] => Some(Tables::All),
+        [only, table] if only == "--only" && table == "builds" => Some(Tables::Builds),
+        _ => None,
+    }
+}
+
 fn main() -> ExitCode {
-    match run(&Pool::new()) {
+    let Some(tables) = tables() else {
+        eprintln!("usage: bench [--only builds]");
+        return ExitCode::from(2);
+    };
+    match run(&Pool::new(), tables) {
         Ok(()) => ExitCode::SUCCESS,
         Err(message) => {
             eprintln!("bench: {message}");
@@ -32,26 +58,40 @@ fn main() -> ExitCode {
     }
 }
 
-fn run(pool: &Pool) -> Result<(), String> {
+fn run(pool: &Pool, tables: Tables) -> Result<(), String> {
     println!("{CHANNELS} channels; ns, the best of {REPETITIONS} repetitions after a warm-up\n");
-    let file = |kind: Kind, positions: usize| File::new(Sound { kind, positions, pool });
-    let mut files = Vec::new();
-    for kind in KINDS {
-        for positions in AREAS {
-            files.push(file(kind, positions)?);
-        }
+    let files = files(pool)?;
+    let [short, _] = AREAS;
+    let texts = [Texts::new("texts", short, 10, 200), Texts::new("long comments", short, 8, 60_000)];
+    let sound = Sound { kind: Kind::Dsd, positions: short, pool };
+    let with_texts = texts.iter().map(|texts| File::new(sound, Some(texts))).collect::<Result<Vec<_>, _>>()?;
+    if tables == Tables::All {
+        print_reads(&files)?;
+        println!();
+        print_parts(&files, pool)?;
+        println!();
     }
-    print_reads(&files)?;
-    println!();
+    print_builds(files.iter().chain(&with_texts));
+    Ok(())
+}
+
+/// The files without texts.
+fn files(pool: &Pool) -> Result<Vec<File<'_>>, String> {
+    let each = KINDS.into_iter().flat_map(|kind| AREAS.map(|positions| (kind, positions)));
+    each.map(|(kind, positions)| file(pool, kind, positions)).collect()
+}
+
+fn file(pool: &Pool, kind: Kind, positions: usize) -> Result<File<'_>, String> {
+    File::new(Sound { kind, positions, pool }, None)
+}
+
+fn print_parts(files: &[File<'_>], pool: &Pool) -> Result<(), String> {
     parts::print_calls_head();
     files.iter().try_for_each(parts::calls)?;
     println!();
-    parts::copies(&file(Kind::Dsd, AREAS[0])?, &SIZES);
+    parts::copies(&file(pool, Kind::Dsd, AREAS[0])?, &SIZES);
     println!();
-    parts::crcs(&file(Kind::Dst { crc: true }, AREAS[0])?)?;
-    println!();
-    print_builds(&files);
-    Ok(())
+    parts::crcs(&file(pool, Kind::Dst { crc: true }, AREAS[0])?)
 }
 
 fn print_reads(files: &[File<'_>]) -> Result<(), String> {
@@ -79,13 +119,13 @@ fn print_reads(files: &[File<'_>]) -> Result<(), String> {
     Ok(())
 }
 
-fn print_builds(files: &[File<'_>]) {
+fn print_builds<'a>(files: impl Iterator<Item = &'a File<'a>>) {
     print!("{:14}{:>9}  {:>18}{:>11}{:>11}", "build", "positions", "header and trailer", "original", "ours");
     println!("{:>8}{:>11}{:>11}{:>9}", "ratio", "sizes", "fresh", "ratio+f");
     for file in files {
-        let builds::Times { original, ours, sizes, fresh } = builds::times(file.sound);
+        let builds::Times { original, ours, sizes, fresh } = builds::times(file.sound, file.texts);
         let bytes = file.sound_start() + file.size() - file.sound_end();
-        print!("{:14}{:>9}  {bytes:>18}{original:>11.0}{ours:>11.0}", file.sound.name(), file.sound.positions);
+        print!("{:14}{:>9}  {bytes:>18}{original:>11.0}{ours:>11.0}", file.name(), file.sound.positions);
         println!("{:>8.2}{sizes:>11.0}{fresh:>11.0}{:>9.2}", ours / original, fresh / original);
     }
 }

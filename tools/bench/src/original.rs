@@ -37,5 +37,5 @@ mod text;
 mod toc;
 
 pub use error::{EditedMasterCheck, Error, OutputRefusal, Slot};
-pub use layouts::Inputs;
+pub use layouts::{Inputs, Texts, TitledTrack};
 pub use output::{Layout, PositionSource, RegionKind};

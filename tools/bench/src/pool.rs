@@ -4,6 +4,8 @@ use std::borrow::Cow;
 
 use original::{Error, PositionSource};
 
+use crate::random::Random;
+
 pub const CHANNELS: u8 = 2;
 /// Positions of a short area (10 seconds) and of a long one (66 minutes 40 seconds).
 pub const AREAS: [usize; 2] = [750, 300_000];
@@ -49,15 +51,5 @@ impl PositionSource for &Pool {
 
     fn dst_equivalent(&mut self, t: u32) -> Result<Cow<'_, [u8]>, Error> {
         Ok(Cow::Borrowed(self.dst(t as usize)))
-    }
-}
-
-/// Numbers that look random: the upper half of a linear congruential generator.
-struct Random(u64);
-
-impl Random {
-    fn word(&mut self) -> u32 {
-        self.0 = self.0.wrapping_mul(6_364_136_223_846_793_005).wrapping_add(1_442_695_040_888_963_407);
-        (self.0 >> 32) as u32
     }
 }

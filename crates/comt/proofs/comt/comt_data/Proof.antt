@@ -8,7 +8,7 @@ returns : tie.Need-returns
 returns c =
     let c₂ = c .before .before in
     let c₁ = c₂ .before .before .before .before in
-    (c₁ .be16 .ensures then c₂ .written-comments .ensures .0, c₂ .written-comments .ensures .1)
+    c₁ .be16 .ensures then c₂ .written-comments .ensures
 
 pub comt-data-spec : {M : Type 1} → statement M
 comt-data-spec =

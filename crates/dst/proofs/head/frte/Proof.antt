@@ -1,27 +1,30 @@
--- `head::frte` meets its contract. Assumes nothing.
+-- `head::frte` meets its contract: a chunk whose size is filled in last. Assumes nothing.
 use mathlib.Core.Path.{_≡_}
-use lib.ListN.{length, length-append}
+use native.Mathlib.Omega.{arith}
 use borrow.Author.Needs.{needs}
+use lib.ListN.{length, length-append}
 use Rattle.chunk_names.specs.Name.{ascii}
-use Rattle.chunk.specs.Chunk.{pad}
-use Rattle.chunk.proofs.AppendLaws.{_then_, none}
 use Rattle.chunk.proofs.NumberLaws.{length-be}
-use Rattle.chunk.proofs.ChunkLaws.{chunked}
+use Rattle.chunk.proofs.SizeLastLaws.{chunk-size-last}
 use Rattle.dst.specs.Head.{rate, frte}
 use Rattle.dst.proofs.head.frte.Statement.{statement}
 use Rattle.dst.proofs.head.frte.Tie as tie
 
 returns : tie.Need-returns
-unfolding frte rate pad
+unfolding frte rate
 returns c =
-    let c₃ = c .before .before in
-    let c₂ = c₃ .before .before .before .before in
-    let c₁ = c₂ .before .before .before .before in
-    let start = c₁ .before .before .before .before .before in
+    let close = c .before .before in
+    let inside = close .before .before .before .before in
+    let new = inside .before .before in
+    let from = new .before in
+    let name = from .before .before .before in
+    let start = name .before .before .before .before .before in
     let six : length (rate (start .args .frames)) ≡ 6 = simp (length-append, length-be) in
-    chunked (ascii "FRTE") 6 six (c₁ .chunk-head .ensures) (c₂ .be32 .ensures then c₃ .be16 .ensures) (none (search needs) (search needs))
+    chunk-size-last (ascii "FRTE") (omega (arith, six))
+    (name .name .ensures) (from .data-start .ensures) (new .new .ensures) (inside .rate .ensures) (close .close .ensures)
 
 pub frte-spec : {M : Type 1} → statement M
 frte-spec =
     tie.close
-    (tie.spec (λ c κs. tt) (λ c κs. tt) (λ c κs. tt) (λ c. search needs) returns)
+    (tie.spec (λ c κs. tt) (λ c κs. tt) (λ c κs. tt) (λ c. search needs) (λ c. search needs) (λ c. search needs) (λ c κs. tt) (λ c κs. tt)
+    (λ c. search needs) returns)

@@ -10,7 +10,7 @@ use borrow.Author.Needs.{needs}
 use Rattle.chunk.specs.Append.{moved}
 use Rattle.dst.specs.Start.{sum}
 use Rattle.dst.proofs.StartLaws.{sum-suc}
-use Rattle.dst.proofs.SaturateLaws.{moved-moved}
+use Rattle.chunk.proofs.AppendLaws.{moved-moved}
 use Rattle.sound_reads.proofs.lent.joined.Statement.{statement}
 use Rattle.sound_reads.proofs.lent.joined.Tie as tie
 
