@@ -7,7 +7,7 @@ use native.Mathlib.Omega.{arith}
 use lib.Pow.{split, pow-pos, pow-mono}
 use lib.Bits.{bitXor, xor-shr, xor-mod, xor-lt, xor-block, xor-shifted, xor-zero-r, xor-comm}
 use Rattle.checksum.specs.Crc.{poly, bit, bits, byteOf}
-use Rattle.checksum.proofs.XorLaws.{xor-swap, xor-double}
+use Rattle.checksum.proofs.XorLaws.{xor-swap, xor-scaled}
 
 -- the polynomial, added or not
 top : (x y : ℕ) → x < 2 → y < 2 → bitXor x y * poly ≡ bitXor (x * poly) (y * poly)
@@ -23,25 +23,25 @@ half : (a : ℕ) → a < 2 ^ 32 → a / 2 ^ 31 < 2
 half a h = omega arith
 
 -- a bit step is linear
-bit-xor : (a b : ℕ) → a < 2 ^ 32 → b < 2 ^ 32 → bit (bitXor a b) ≡ bitXor (bit a) (bit b)
+pub bit-xor : (a b : ℕ) → a < 2 ^ 32 → b < 2 ^ 32 → bit (bitXor a b) ≡ bitXor (bit a) (bit b)
 unfolding bit
 bit-xor a b ha hb =
     ap₂ bitXor
     (ap (λ (x : ℕ). x * poly) (xor-shr a b 31) ∙ top (a / 2 ^ 31) (b / 2 ^ 31) (half a ha) (half b hb))
-    (ap (λ (x : ℕ). x % 2 ^ 32) (sym (xor-double a b)) ∙ xor-mod (a * 2) (b * 2) 32)
+    (ap (λ (x : ℕ). x % 2 ^ 32) (sym (xor-scaled 1 a b)) ∙ xor-mod (a * 2) (b * 2) 32)
     ∙ xor-swap (a / 2 ^ 31 * poly) (b / 2 ^ 31 * poly) (a * 2 % 2 ^ 32) (b * 2 % 2 ^ 32)
 
-bit-lt : (a : ℕ) → a < 2 ^ 32 → bit a < 2 ^ 32
+pub bit-lt : (a : ℕ) → a < 2 ^ 32 → bit a < 2 ^ 32
 unfolding bit
 bit-lt a h = let k = half a h in xor-lt 32 (a / 2 ^ 31 * poly) (a * 2 % 2 ^ 32) (omega arith) (mod-lt (a * 2) (pow-pos 32))
 
-bits-xor : (n a b : ℕ) → a < 2 ^ 32 → b < 2 ^ 32 → bits n (bitXor a b) ≡ bitXor (bits n a) (bits n b)
+pub bits-xor : (n a b : ℕ) → a < 2 ^ 32 → b < 2 ^ 32 → bits n (bitXor a b) ≡ bitXor (bits n a) (bits n b)
 unfolding bits
 bits-xor zero a b ha hb = refl
 bits-xor (suc n) a b ha hb = ap (bits n) (bit-xor a b ha hb) ∙ bits-xor n (bit a) (bit b) (bit-lt a ha) (bit-lt b hb)
 
 -- where no one falls out, a bit step doubles
-bit-small : (x : ℕ) → x < 2 ^ 31 → bit x ≡ x * 2
+pub bit-small : (x : ℕ) → x < 2 ^ 31 → bit x ≡ x * 2
 unfolding bit
 bit-small x h =
     let z : x / 2 ^ 31 ≡ 0 = omega arith in
@@ -56,6 +56,27 @@ bits-small (suc n) k x h l =
     let d : x * 2 < 2 ^ suc k = rw pow-suc (omega arith) in
     ap (bits n) (bit-small x (omega arith)) ∙ bits-small n (suc k) (x * 2) d (omega arith)
     ∙ mul-assoc x 2 (2 ^ n) ∙ ap (λ (m : ℕ). x * m) (mul-comm 2 (2 ^ n) ∙ sym (pow-suc 2 n))
+
+pub bits-lt : (n a : ℕ) → a < 2 ^ 32 → bits n a < 2 ^ 32
+unfolding bits
+bits-lt zero a h = h
+bits-lt (suc n) a h = bits-lt n (bit a) (bit-lt a h)
+
+top-lt : (r b : ℕ) → r < 2 ^ 32 → b < 2 ^ 8 → bitXor r (b * 2 ^ 24) < 2 ^ 32
+top-lt r b hr hb = xor-lt 32 r (b * 2 ^ 24) hr (omega arith)
+
+pub byte-lt : (r b : ℕ) → r < 2 ^ 32 → b < 2 ^ 8 → byteOf r b < 2 ^ 32
+unfolding byteOf
+byte-lt r b hr hb = bits-lt 8 (bitXor r (b * 2 ^ 24)) (top-lt r b hr hb)
+
+-- a byte step is linear
+pub byte-xor : (r s b d : ℕ) → r < 2 ^ 32 → s < 2 ^ 32 → b < 2 ^ 8 → d < 2 ^ 8
+    → byteOf (bitXor r s) (bitXor b d) ≡ bitXor (byteOf r b) (byteOf s d)
+unfolding byteOf
+byte-xor r s b d hr hs hb hd =
+    ap (bits 8)
+    (ap (bitXor (bitXor r s)) (sym (xor-scaled 24 b d)) ∙ xor-swap r s (b * 2 ^ 24) (d * 2 ^ 24))
+    ∙ bits-xor 8 (bitXor r (b * 2 ^ 24)) (bitXor s (d * 2 ^ 24)) (top-lt r b hr hb) (top-lt s d hs hd)
 
 -- the entry is one of 256
 pub index-lt : (r b : ℕ) → r < 2 ^ 32 → b < 2 ^ 8 → bitXor (r / 2 ^ 24) b < 2 ^ 8

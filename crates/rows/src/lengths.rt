@@ -1,18 +1,28 @@
 // 10: the lengths of DST frames.
 ghost use mathlib.Core.Path.{_≡_};
+ghost use Prim.Native.Nat.{_+_, _%_};
 ghost use Rattle.rows.specs.Lengths.{lengthsWrong};
 
-const LONGEST_FRAME: u32 = 65_536;
+// The number before x; of 0, the largest.
+fn one_less(x: u32) -> u32
+    ensures { λ r. ⌜ r ≡ (x + 4_294_967_295) % 4_294_967_296 ⌝ }
+{
+    (((x as u64) + 4_294_967_295) % 4_294_967_296) as u32
+}
 
-// Whether one of them is not 1 to 65,536. The loop has no branch, so that it is done on many lengths at once.
+// The number before each is 0 to 65,535 if it is right, and larger if not.
+const LAST: u32 = 65_535;
+
+// Whether one of them is not 1 to 65,536. The numbers before them are joined bit by bit and tested once, so that the loop has no branch and is
+// done on many lengths at once.
 pub fn lengths_wrong(lengths: &[u32]) -> bool
     ensures { λ r. ⌜ r ≡ lengthsWrong (now (lengths .entry)) ⌝ }
 {
-    let mut wrong = false;
+    let mut all: u32 = 0;
     let mut i = 0;
     while i < lengths.len() {
-        wrong = wrong | ((lengths[i] < 1) | (LONGEST_FRAME < lengths[i]));
+        all = all | one_less(lengths[i]);
         i += 1;
     }
-    wrong
+    LAST < all
 }

@@ -1,0 +1,33 @@
+-- Units of some bytes in the CRC, the first byte lowest, and a ring of 32 of them: what the steps of the CRC promise each other. Only private
+-- functions promise these. Assumes nothing.
+use Prim.Native.Nat.{ℕ, zero, suc, _+_, _*_, _/_, _%_, _^_}
+use mathlib.Core.List.{List}
+use mathlib.Core.Path.{_≡_}
+use lib.ListN.{getD, drop}
+use Rattle.checksum.specs.Crc.{byteOf, bytesOf}
+
+-- the register r after the n low bytes of w
+unfoldable pub feed : ℕ → ℕ → ℕ → ℕ
+feed zero r w = r
+feed (suc n) r w = feed n (byteOf r (w % 256)) (w / 256)
+
+-- the register r after the units f 0, .., f (k - 1), of n bytes each
+unfoldable pub after : ℕ → ℕ → (ℕ → ℕ) → ℕ → ℕ
+after n r f zero = r
+after n r f (suc k) = feed n (after n r f k) (f k)
+
+-- the register after a ring of 32 units of n bytes, from the place i on
+unfoldable pub ringOf : ℕ → List ℕ → ℕ → ℕ
+ringOf n a i = after n 0 (λ j. getD a ((i + j) % 32) 0) 32
+
+-- w is the next 8 bytes of s, from the place i on: it does to any register what they do
+abbrev pub Next : List ℕ → ℕ → ℕ → Type 0
+Next s i w = (r : ℕ) → bytesOf r (drop i s) ≡ bytesOf (feed 8 r w) (drop (i + 8) s)
+
+-- the ring b, from the place after i on, is the ring a from i on and one unit more, whether units have 1, 2, 4, 8 or so many bytes
+abbrev pub Pushed : List ℕ → ℕ → ℕ → List ℕ → Type 0
+Pushed a i u b = (k : ℕ) → ringOf (2 ^ k) b (i + 1) ≡ feed (2 ^ k) (ringOf (2 ^ k) a i) u
+
+-- the ring b of halves is the ring a from n on, where `half` is past the largest half
+abbrev pub Halved : List ℕ → ℕ → ℕ → List ℕ → Type 0
+Halved a n half b = (k : ℕ) → half ≡ 2 ^ (8 * 2 ^ k) → ringOf (2 ^ k) b 0 ≡ ringOf (2 ^ suc k) a n
