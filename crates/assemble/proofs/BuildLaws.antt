@@ -7,7 +7,7 @@ use native.Mathlib.Omega.{arith}
 use borrow.Author.Tests.{ltb-false}
 use lib.Dec.{ltb}
 use lib.ListN.{length, drop}
-use Rattle.chunk.specs.Append.{overlay}
+use Rattle.chunk.specs.Append.{overlay, moved}
 use Rattle.chunk.proofs.AppendLaws.{overlay-room}
 use Rattle.refusal.specs.declared.verdict.Verdict.{Verdict}
 use Rattle.refusal.specs.declared.verdict.Verdict.the-variants.{Accepted, Refused}
@@ -55,12 +55,12 @@ module _ (x : Inputs) (ok : verdict x ≡ Accepted) (m : Lengths) (known : Measu
   there = header-long ∙ length-header x
 
   -- what is written is the header and the trailer
-  pub header-filled : {s : ℕ} {h h′ t t′ : List ℕ} → s ≡ soundLength x → BothWritten x (m .front + s + m .back) (12 + m .front) h h′ t t′ → h′ ≡ overlay h 0 (headerOf x)
+  pub header-filled : {s : ℕ} {h h′ t t′ : List ℕ} → s ≡ soundLength x → BothWritten x (moved (m .front + m .back) s) (12 + m .front) h h′ t t′ → h′ ≡ overlay h 0 (headerOf x)
   unfolding headerOf
   header-filled {s} e f =
       let a = front-long ∙ length-front x 0 (place x) in
       let b = back-long ∙ length-back x 0 (place x) in
-      let size : m .front + s + m .back ≡ formSize x = omega (arith, a, b, e) in
+      let size : moved (m .front + m .back) s ≡ formSize x = omega (arith, a, b, e, front-fits, back-fits, sound-low x ok (known .orders)) in
       f .header ∙ rw (size, there)
 
   pub trailer-filled : {n : ℕ} {h h′ t t′ : List ℕ} → BothWritten x n (12 + m .front) h h′ t t′ → t′ ≡ overlay t 0 (trailerOf x)

@@ -50,7 +50,6 @@ fn lay_out(
         callers,
         lengths,
     );
-    let sound = file_layout::sound::sound_size(area, options.dst_crc, lengths);
     let before = m.front as u64;
     let behind = m.back as u64;
     let base = 12 + before;
@@ -60,8 +59,8 @@ fn lay_out(
             return Answer::Refused { number, detail };
         }
         Verdict::Accepted => {
-            header_trailer::fill::fill(
-                before + sound + behind,
+            let sound = header_trailer::fill::fill_around(
+                before + behind,
                 base,
                 area,
                 options,

@@ -1,7 +1,8 @@
 // The DST chunk up to its first frame.
 ghost use Rattle.chunk.specs.Append.{Appended};
-ghost use Rattle.dst.specs.Head.{rate, frte, head};
-use crate::unit::data_size;
+ghost use Rattle.dst.specs.Head.{rate, frte, head, headOf};
+use crate::unit::units;
+use crate::unit::with_frte;
 use chunk::Cursor;
 
 // Frames a second.
@@ -25,11 +26,17 @@ fn frte(c: Cursor, out: &mut [u8], frames: u32) -> Cursor
     size_at.close(out, end)
 }
 
-// The header of the DST chunk, and FRTE.
+// The header of the DST chunk, and FRTE, of so many frames whose units have so many bytes together.
+pub fn head_of(c: Cursor, out: &mut [u8], bytes: u64, frames: usize) -> Cursor
+    ensures { λ r. ⌜ Appended (now (out .entry)) (c .at) (headOf bytes frames) (now (out .exit)) (r .at) ⌝ }
+{
+    let c1 = c.chunk_head(out, *b"DST ", with_frte(bytes));
+    frte(c1, out, (frames % 0x1_0000_0000) as u32)
+}
+
+// The header of the DST chunk, and FRTE, of frames of these lengths.
 pub fn head(c: Cursor, out: &mut [u8], crc: bool, lengths: &[u32]) -> Cursor
     ensures { λ r. ⌜ Appended (now (out .entry)) (c .at) (head crc (now (lengths .entry))) (now (out .exit)) (r .at) ⌝ }
 {
-    let size = data_size(crc, lengths);
-    let c1 = c.chunk_head(out, *b"DST ", size);
-    frte(c1, out, (lengths.len() % 0x1_0000_0000) as u32)
+    head_of(c, out, units(crc, lengths), lengths.len())
 }

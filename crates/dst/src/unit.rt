@@ -54,9 +54,16 @@ pub fn start(crc: bool, lengths: &[u32], i: usize) -> u64
     units(crc, lengths)
 }
 
+// FRTE and so many bytes of units.
+pub(crate) fn with_frte(bytes: u64) -> u64
+    ensures { λ r. ⌜ r ≡ moved 18 bytes ⌝ }
+{
+    plus(18, bytes)
+}
+
 // The data size of the DST chunk: FRTE and the units.
 pub fn data_size(crc: bool, lengths: &[u32]) -> u64
     ensures { λ r. ⌜ r ≡ dataSize (sizes crc (now (lengths .entry))) ⌝ }
 {
-    plus(18, units(crc, lengths))
+    with_frte(units(crc, lengths))
 }

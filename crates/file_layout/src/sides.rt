@@ -1,7 +1,7 @@
 // FRM8's data up to the first sound byte, and what follows the sound.
 ghost use Rattle.chunk.specs.Append.{Appended};
 ghost use Rattle.file_tree.specs.Parts.{partsOf};
-ghost use Rattle.file_tree.specs.Sides.{givenNames, front, back};
+ghost use Rattle.file_tree.specs.Sides.{givenNames, frontBefore, back};
 use build_options::area::Area;
 use build_options::options::Options;
 use chunk::Cursor;
@@ -12,10 +12,12 @@ use chunk_names::PropertyChunk;
 // The version of the format.
 const VERSION: [u8; 4] = [1, 5, 0, 0];
 
-// The form, FVER, the local chunks before the sound, and the sound chunk's head. The index's offsets are counted from `base`, the place of the first sound byte.
-pub fn front(
+// The form, FVER, the local chunks before the sound, and the sound chunk's head, where the sound has `size` bytes. The index's offsets are counted from
+// `base`, the place of the first sound byte.
+pub fn front_before(
     c: Cursor,
     out: &mut [u8],
+    size: u64,
     base: u64,
     area: Area,
     options: Options,
@@ -31,7 +33,7 @@ pub fn front(
     lengths: &[u32],
 ) -> Cursor
     ensures { λ r. ⌜ Appended (now (out .entry)) (c .at)
-        (front (partsOf area options «property_order» «info_order» (now (pool .entry)) (now (raw .entry)) (now (tracks .entry)) (now (markers .entry)) (now (comments .entry)) (now (lengths .entry))) base (givenNames «local_order» «local_count»))
+        (frontBefore (partsOf area options «property_order» «info_order» (now (pool .entry)) (now (raw .entry)) (now (tracks .entry)) (now (markers .entry)) (now (comments .entry)) (now (lengths .entry))) size base (givenNames «local_order» «local_count»))
         (now (out .exit)) (r .at) ⌝ }
 {
     let version = VERSION;
@@ -55,7 +57,8 @@ pub fn front(
         comments,
         lengths,
     );
-    crate::sound::sound_head(c, out, area, options.dst_crc, lengths)
+    let sound = area.sound;
+    crate::sound::sound_head_of(c, out, sound, size, lengths.len())
 }
 
 // The local chunks behind the sound, and the caller's chunks.

@@ -4,7 +4,7 @@ ghost use Prim.Native.Nat.{_*_, _-_, _^_, min};
 ghost use Rattle.chunk.specs.Append.{Appended};
 ghost use Rattle.dst.specs.Frame.{frameBytes};
 ghost use Rattle.build_options.specs.Area.{areaPositions};
-ghost use Rattle.file_tree.specs.Sound.{soundSize, soundHead};
+ghost use Rattle.file_tree.specs.Sound.{soundSize, soundHeadOf};
 use build_options::area::Area;
 use chunk::Cursor;
 use prop_fields::compression::Sound;
@@ -31,18 +31,16 @@ pub fn sound_size(area: Area, crc: bool, lengths: &[u32]) -> u64
     }
 }
 
-// The sound chunk's name and size and, of DST, FRTE.
-pub fn sound_head(c: Cursor, out: &mut [u8], area: Area, crc: bool, lengths: &[u32]) -> Cursor
-    ensures { λ r. ⌜ Appended (now (out .entry)) (c .at) (soundHead (area .sound) area crc (now (lengths .entry))) (now (out .exit)) (r .at) ⌝ }
+// The sound chunk's name and size and, of DST, FRTE, of so many bytes of sound in so many frames.
+pub fn sound_head_of(c: Cursor, out: &mut [u8], sound: Sound, size: u64, frames: usize) -> Cursor
+    ensures { λ r. ⌜ Appended (now (out .entry)) (c .at) (soundHeadOf sound size frames) (now (out .exit)) (r .at) ⌝ }
 {
-    let sound = area.sound;
     match sound {
         Sound::Dsd => {
-            let size = dsd_size(area);
             return c.chunk_head(out, *b"DSD ", size);
         }
         Sound::Dst => {
-            return dst::head::head(c, out, crc, lengths);
+            return dst::head::head_of(c, out, size, frames);
         }
     }
 }

@@ -2,7 +2,7 @@
 use mathlib.Core.Path.{_≡_, refl, ap, sym, _∙_}
 use mathlib.Core.Bool.{Bool, true, false, cond, true≢false}
 use mathlib.Core.List.{List, [], _∷_, _++_, map, flatMap, append-assoc}
-use Prim.Native.Nat.{ℕ, _+_, _%_, _^_, _≤_, _<_}
+use Prim.Native.Nat.{ℕ, _+_, _-_, _*_, _%_, _^_, _≤_, _<_, min}
 use native.Mathlib.Omega.{arith}
 use lib.ListN.{length, length-append}
 use Rattle.chunk.specs.Number.{be}
@@ -16,7 +16,7 @@ use Rattle.chunk.proofs.ChunkLaws.{length-chunk}
 use Rattle.tree.proofs.TreeLaws.{bytes-stop, bytes-leaf, bytes-node, bytes-join, bytes-each}
 use Rattle.comt.specs.Comment.{writtenComments, comtData, hasComt, comtChunk}
 use Rattle.comt.proofs.CommentLaws.{comt-tree}
-use Rattle.dst.specs.Frame.{Frame}
+use Rattle.dst.specs.Frame.{Frame, frameBytes}
 use Rattle.dst.specs.Head.{dst}
 use Rattle.dst_index.specs.Index.{dsti}
 use Rattle.dst.proofs.UnitLaws.{chunk-even}
@@ -26,14 +26,15 @@ use Rattle.prop_fields.specs.declared.compression.Sound.{Sound}
 use Rattle.prop_fields.specs.declared.compression.Sound.the-variants.{Dsd, Dst}
 use Rattle.master_info.specs.Diin.{infoChunks, hasDiin, diin}
 use Rattle.refusal.specs.Orders.{localRank, times}
+use Rattle.build_options.specs.Area.{areaPositions}
 use Rattle.build_options.specs.Inputs.{Inputs}
 use Rattle.file_tree.specs.Parts.{Parts, parts, info, hasIndex, firstOffset, indexOf}
-use Rattle.file_tree.specs.Sound.{soundBytes, soundChunk, Fits, soundHead}
+use Rattle.file_tree.specs.Sound.{soundBytes, soundChunk, Fits, soundSize, soundHead}
 use Rattle.caller_chunks.specs.Caller.{callerChunk, callerChunks}
-use Rattle.file_tree.specs.Sides.{isSound, before, behind, localBytes, localsBytes, version, front, back}
+use Rattle.file_tree.specs.Sides.{isSound, before, behind, localBytes, localsBytes, version, front, frontBefore, back}
 use Rattle.file_tree.specs.File.{given, frontOf, backOf, place, soundLength, formSize, headerOf, trailerOf, localChunk, formChunks, fileOf}
 use Rattle.file_tree.proofs.SideLaws.{once}
-use Rattle.file_tree.proofs.SoundLaws.{length-soundBytes, sound-bytes}
+use Rattle.file_tree.proofs.SoundLaws.{length-soundBytes, sound-bytes, sound-head-of, length-sound-head}
 
 -- EVERY CHUNK OCCUPIES AN EVEN NUMBER OF BYTES, so FRM8 has no pad
 abbrev Even : Chunks → Type 0
@@ -187,6 +188,17 @@ length-locals : (p : Parts) (a b : ℕ) (cs : List LocalChunk) → length (local
 unfolding flatMap
 length-locals p a b [] = refl
 length-locals p a b (c ∷ cs) = rw (length-append, length-append, length-local p a b c, length-locals p a b cs)
+
+-- THE FRONT where the sound's size is known
+module _ (p : Parts) (n base : ℕ) (cs : List LocalChunk) where
+  pub front-before : areaPositions (p .area) * frameBytes (p .area .channels) < 2 ^ 64
+      → n ≡ min (soundSize (p .area .sound) (p .area) (p .options .«dst_crc») (p .lengths)) (2 ^ 64 - 1) → frontBefore p n base cs ≡ front p base cs
+  unfolding front frontBefore
+  front-before low e = rw (sound-head-of (p .area .sound) (p .area) (p .options .«dst_crc») (p .lengths) n low e)
+
+  pub length-front-before : length (frontBefore p n base cs) ≡ length (front p base cs)
+  unfolding front frontBefore
+  length-front-before = simp (length-append, length-sound-head (p .area .sound) (p .area) (p .options .«dst_crc») (p .lengths) n)
 
 pub length-front : (x : Inputs) (a b : ℕ) → length (frontOf x a) ≡ length (frontOf x b)
 unfolding front

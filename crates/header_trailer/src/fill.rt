@@ -1,6 +1,6 @@
-// Header and trailer, written.
+// Header and trailer, written. The sound's length is worked out here, once in a build.
 ghost use Rattle.build_options.specs.Inputs.{inputsOf};
-ghost use Rattle.header_trailer.specs.Fill.{BothWritten};
+ghost use Rattle.header_trailer.specs.Fill.{FilledAround};
 use build_options::area::Area;
 use build_options::options::Options;
 use chunk::Cursor;
@@ -8,9 +8,10 @@ use chunk_names::InfoChunk;
 use chunk_names::LocalChunk;
 use chunk_names::PropertyChunk;
 
-// Header and trailer, where FRM8's data has so many bytes and the sound begins at `base`.
-pub fn fill(
-    size: u64,
+// Header and trailer around the sound, whose length it works out and answers, where FRM8's data has `rest` bytes beside the sound and the sound begins
+// at `base`.
+pub fn fill_around(
+    rest: u64,
     base: u64,
     area: Area,
     options: Options,
@@ -27,15 +28,18 @@ pub fn fill(
     lengths: &[u32],
     head: &mut [u8],
     tail: &mut [u8],
-)
-    ensures { λ _. ⌜ BothWritten (inputsOf area options «property_order» «info_order» «local_order» «local_count» (now (pool .entry)) (now (raw .entry)) (now (tracks .entry)) (now (markers .entry)) (now (comments .entry)) (now (callers .entry)) (now (lengths .entry))) size base
-        (now (head .entry)) (now (head .exit)) (now (tail .entry)) (now (tail .exit)) ⌝ }
+) -> u64
+    ensures { λ r. ⌜ FilledAround (inputsOf area options «property_order» «info_order» «local_order» «local_count» (now (pool .entry)) (now (raw .entry)) (now (tracks .entry)) (now (markers .entry)) (now (comments .entry)) (now (callers .entry)) (now (lengths .entry))) rest base
+        (now (head .entry)) (now (head .exit)) (now (tail .entry)) (now (tail .exit)) r ⌝ }
 {
+    let sound = file_layout::sound::sound_size(area, options.dst_crc, lengths);
+    let size = dst::unit::plus(rest, sound);
     let start = Cursor::new();
     let c = start.chunk_head(head, *b"FRM8", size);
-    file_layout::sides::front(
+    file_layout::sides::front_before(
         c,
         head,
+        sound,
         base,
         area,
         options,
@@ -68,4 +72,5 @@ pub fn fill(
         callers,
         lengths,
     );
+    sound
 }

@@ -14,7 +14,7 @@ pub struct Lengths {
     pub back: usize,
 }
 
-// What is to be written is written to an empty buffer.
+// What is to be written is written to an empty buffer. How long the sound is, changes no length.
 pub fn measure(
     area: Area,
     options: Options,
@@ -34,9 +34,10 @@ pub fn measure(
 {
     let mut empty = [0u8; 0];
     let start = Cursor::new();
-    let front = file_layout::sides::front(
+    let front = file_layout::sides::front_before(
         start,
         &mut empty,
+        0,
         0,
         area,
         options,

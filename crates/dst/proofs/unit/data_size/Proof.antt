@@ -6,7 +6,7 @@ use Rattle.dst.proofs.unit.data_size.Tie as tie
 
 returns : tie.Need-returns
 unfolding dataSize
-returns c = omega (arith, c .plus .ensures, c .before .units .ensures)
+returns c = omega (arith, c .with-frte .ensures, c .before .units .ensures)
 
 pub data-size-spec : {M : Type 1} → statement M
 data-size-spec =
