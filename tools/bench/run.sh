@@ -1,11 +1,11 @@
 #!/bin/sh
 # Times builds and reads of whole files by this repository's compiled library and by the original Rust, side by side:
-#   run.sh [--request DIR] [--library FILE] [--only builds]
+#   run.sh [--request DIR] [--library FILE] [--only reads|parts|crc|builds]
 # README.md says what is timed. Status: 0 it ran, 1 the bytes of the two differ, 2 something could not be run.
 set -eu
 
 usage() {
-    echo "usage: run.sh [--request DIR] [--library FILE] [--only builds]" >&2
+    echo "usage: run.sh [--request DIR] [--library FILE] [--only reads|parts|crc|builds]" >&2
     exit 2
 }
 
@@ -22,8 +22,7 @@ while [ $# -gt 0 ]; do
         --request) request=$2 ;;
         --library) library=$2 ;;
         --only)
-            [ "$2" = builds ] || usage
-            only=$2
+            case $2 in reads | parts | crc | builds) only=$2 ;; *) usage ;; esac
             ;;
         *) usage ;;
     esac
@@ -31,9 +30,18 @@ while [ $# -gt 0 ]; do
 done
 
 prepare
-build bench
+# With the crate `crc`, if Debian's package of it is there.
+registry=/usr/share/cargo/registry
+if [ -d "$registry/crc-1.8.1" ]; then
+    program=bench-with-crc-crate
+    build $program "$here/with_crc_crate" --config "source.crates-io.replace-with='debian'" \
+        --config "source.debian.directory='$registry'"
+else
+    program=bench
+    build $program
+fi
 
 status=0
-"$root/target/bench/release/bench" ${only:+--only "$only"} || status=$?
+"$root/target/$program/release/bench" ${only:+--only "$only"} || status=$?
 [ "$status" -le 1 ] || failed "the program ended with status $status"
 exit "$status"

@@ -24,8 +24,11 @@ prepare_library() {
     export JANGQERUZ_LIBRARY
 }
 
-# build NAME: the program of the folder `here`, in target/NAME
+# build NAME [FOLDER [OPTION]..]: the program of the folder, by default of `here`, in target/NAME; cargo gets the options
 build() {
-    CARGO_TARGET_DIR=$root/target/$1 cargo build --quiet --release --offline --locked --manifest-path "$here/Cargo.toml" >&2 ||
+    name=$1
+    manifest=${2:-$here}/Cargo.toml
+    shift $(($# < 2 ? 1 : 2))
+    CARGO_TARGET_DIR=$root/target/$name cargo build --quiet --release --offline --locked --manifest-path "$manifest" "$@" >&2 ||
         failed "the program could not be built"
 }

@@ -4,7 +4,8 @@
 #![forbid(unsafe_code)]
 
 mod builds;
-mod crc;
+mod crc_crate;
+mod crcs;
 mod file;
 mod parts;
 mod pool;
@@ -15,7 +16,6 @@ mod texts;
 mod timing;
 
 use std::env;
-use std::ffi::OsString;
 use std::process::ExitCode;
 
 use file::File;
@@ -27,29 +27,38 @@ use timing::REPETITIONS;
 
 const SIZES: [usize; 3] = [4 << 10, 64 << 10, 1 << 20];
 
-/// Which tables are wanted.
-#[derive(PartialEq)]
-enum Tables {
-    All,
+#[derive(Clone, Copy, PartialEq)]
+enum Table {
+    Reads,
+    Parts,
+    Crcs,
     Builds,
 }
 
-/// What the program's arguments ask for; nothing if they are not as in the usage.
-fn tables() -> Option<Tables> {
-    let arguments: Vec<OsString> = env::args_os().skip(1).collect();
-    match &arguments[..] {
-        [] => Some(Tables::All),
-        [only, table] if only == "--only" && table == "builds" => Some(Tables::Builds),
+/// The one table that the program's arguments ask for, if they do; nothing if they are not as in the usage.
+fn only() -> Option<Option<Table>> {
+    let arguments: Vec<_> = env::args_os().skip(1).collect();
+    let arguments = arguments.iter().map(|argument| argument.to_str()).collect::<Option<Vec<_>>>()?;
+    let table = match arguments[..] {
+        [] => return Some(None),
+        ["--only", table] => table,
+        _ => return None,
+    };
+    match table {
+        "reads" => Some(Some(Table::Reads)),
+        "parts" => Some(Some(Table::Parts)),
+        "crc" => Some(Some(Table::Crcs)),
+        "builds" => Some(Some(Table::Builds)),
         _ => None,
     }
 }
 
 fn main() -> ExitCode {
-    let Some(tables) = tables() else {
-        eprintln!("usage: bench [--only builds]");
+    let Some(only) = only() else {
+        eprintln!("usage: bench [--only reads|parts|crc|builds]");
         return ExitCode::from(2);
     };
-    match run(&Pool::new(), tables) {
+    match run(&Pool::new(), only) {
         Ok(()) => ExitCode::SUCCESS,
         Err(message) => {
             eprintln!("bench: {message}");
@@ -58,20 +67,30 @@ fn main() -> ExitCode {
     }
 }
 
-fn run(pool: &Pool, tables: Tables) -> Result<(), String> {
-    println!("{CHANNELS} channels; ns, the best of {REPETITIONS} repetitions after a warm-up\n");
+fn run(pool: &Pool, only: Option<Table>) -> Result<(), String> {
+    println!("{CHANNELS} channels; ns, the best of {REPETITIONS} repetitions after a warm-up");
     let files = files(pool)?;
     let [short, _] = AREAS;
     let texts = [Texts::new("texts", short, 10, 200), Texts::new("long comments", short, 8, 60_000)];
     let sound = Sound { kind: Kind::Dsd, positions: short, pool };
     let with_texts = texts.iter().map(|texts| File::new(sound, Some(texts))).collect::<Result<Vec<_>, _>>()?;
-    if tables == Tables::All {
+    let wanted = |table| only.is_none_or(|only| only == table);
+    if wanted(Table::Reads) {
+        println!();
         print_reads(&files)?;
+    }
+    if wanted(Table::Parts) {
         println!();
         print_parts(&files, pool)?;
-        println!();
     }
-    print_builds(files.iter().chain(&with_texts));
+    if wanted(Table::Crcs) {
+        println!();
+        crcs::print(&file(pool, Kind::Dst { crc: true }, short)?)?;
+    }
+    if wanted(Table::Builds) {
+        println!();
+        print_builds(files.iter().chain(&with_texts));
+    }
     Ok(())
 }
 
@@ -90,8 +109,7 @@ fn print_parts(files: &[File<'_>], pool: &Pool) -> Result<(), String> {
     files.iter().try_for_each(parts::calls)?;
     println!();
     parts::copies(&file(pool, Kind::Dsd, AREAS[0])?, &SIZES);
-    println!();
-    parts::crcs(&file(pool, Kind::Dst { crc: true }, AREAS[0])?)
+    Ok(())
 }
 
 fn print_reads(files: &[File<'_>]) -> Result<(), String> {

@@ -1,29 +1,15 @@
-//! What our reads are made of: the test of all lengths, the walk, the copying, and the CRCs.
+//! What our reads are made of: the test of all lengths, the walk, and the copying.
 
 use std::hint::black_box;
-use std::time::Duration;
 
-use library::sound as ours;
-
-use crate::crc;
 use crate::file::{File, Joined, Read};
-use crate::pool::CONTENT_BYTES;
-use crate::timing::{best, each, timed};
+use crate::timing::{best_call, repeated};
 
 /// Calls that are timed together.
 const CALLS: usize = 64;
 
 /// Where the bytes that are copied start in the sound.
 const COPIED_FROM: usize = 1_237;
-
-fn repeated(mut call: impl FnMut()) -> Duration {
-    timed(|| (0..CALLS).for_each(|_| call()))
-}
-
-/// Nanoseconds for a call.
-fn best_call<const N: usize>(repetition: impl FnMut() -> [Duration; N]) -> [f64; N] {
-    best(repetition).map(|time| each(time, CALLS))
-}
 
 /// Reads that copy next to nothing: of the file's first byte, which need no walk, and at its end, before which all lengths
 /// are walked.
@@ -34,10 +20,10 @@ pub fn calls(file: &File<'_>) -> Result<(), String> {
         if [file.original(read, &mut out), file.read(read, &nothing, &mut out)] != [filled; 2] {
             return Err(format!("{}: not {filled} bytes from {offset} on", file.sound.name()));
         }
-        Ok(best_call(|| {
-            let original = repeated(|| _ = black_box(file.original(black_box(read), &mut out)));
-            let query = repeated(|| _ = black_box(file.query(black_box(read))));
-            let ours = repeated(|| _ = black_box(file.read(black_box(read), &nothing, &mut out)));
+        Ok(best_call(CALLS, || {
+            let original = repeated(CALLS, || _ = black_box(file.original(black_box(read), &mut out)));
+            let query = repeated(CALLS, || _ = black_box(file.query(black_box(read))));
+            let ours = repeated(CALLS, || _ = black_box(file.read(black_box(read), &nothing, &mut out)));
             [original, query, ours]
         }))
     };
@@ -67,38 +53,17 @@ pub fn copies(dsd: &File<'_>, sizes: &[usize]) {
         let read = Read { bytes, ..small };
         let joined = dsd.lent(read);
         let mut out = vec![0; bytes];
-        let [copy, fill, one] = best_call(|| {
-            let copy = repeated(|| {
+        let [copy, fill, one] = best_call(CALLS, || {
+            let copy = repeated(CALLS, || {
                 let from = black_box(&joined).contents[COPIED_FROM..].split_at(bytes).0;
                 black_box(&mut out).copy_from_slice(from);
             });
-            let fill = repeated(|| _ = black_box(dsd.read(black_box(read), &joined, &mut out)));
-            let one = repeated(|| _ = black_box(dsd.read(black_box(small), &small_lent, &mut out[..1])));
+            let fill = repeated(CALLS, || _ = black_box(dsd.read(black_box(read), &joined, &mut out)));
+            let one = repeated(CALLS, || _ = black_box(dsd.read(black_box(small), &small_lent, &mut out[..1])));
             [copy, fill, one]
         });
         let (ratio, copying) = (fill / copy, fill - one);
         print!("DSD {bytes:>19}{copy:>11.0}{fill:>11.0}{ratio:>8.2}");
         println!("{one:>11.0}{copying:>11.0}{:>8.2}", copying / copy);
     }
-}
-
-/// Our CRC of a frame's content, against a copy of the original's function, and against what the original writes.
-pub fn crcs(dst: &File<'_>) -> Result<(), String> {
-    let pool = dst.sound.pool;
-    let length = u64::from(pool.lengths[0]);
-    let mut written = [0; 4];
-    dst.original(Read { offset: dst.sound_start() + 12 + length + length % 2 + 12, bytes: 4 }, &mut written);
-    let content = pool.content(0);
-    if [crc::crc(content), ours::crc(content)] != [u32::from_be_bytes(written); 2] {
-        return Err("the CRCs are not the same".into());
-    }
-    let [original, ours] = best_call(|| {
-        let original = repeated(|| _ = black_box(crc::crc(black_box(content))));
-        let ours = repeated(|| _ = black_box(ours::crc(black_box(content))));
-        [original, ours]
-    });
-    println!("{:>23}{:>11}{:>11}{:>8}", "bytes", "original*", "ours", "ratio");
-    println!("CRC {CONTENT_BYTES:>19}{original:>11.0}{ours:>11.0}{:>8.2}", ours / original);
-    println!("* a copy of the original's function, which is private");
-    Ok(())
 }

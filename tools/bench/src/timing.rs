@@ -27,3 +27,13 @@ pub fn best<const N: usize>(mut repetition: impl FnMut() -> [Duration; N]) -> [D
 pub fn each(time: Duration, count: usize) -> f64 {
     time.as_nanos() as f64 / count as f64
 }
+
+/// How long so many calls take.
+pub fn repeated(calls: usize, mut call: impl FnMut()) -> Duration {
+    timed(|| (0..calls).for_each(|_| call()))
+}
+
+/// Nanoseconds of one of so many calls, for each column.
+pub fn best_call<const N: usize>(calls: usize, repetition: impl FnMut() -> [Duration; N]) -> [f64; N] {
+    best(repetition).map(|time| each(time, calls))
+}

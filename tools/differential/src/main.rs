@@ -3,11 +3,13 @@
 
 #![forbid(unsafe_code)]
 
+mod answers;
 mod buffer;
 mod builds;
 mod calls;
 mod checks;
 mod chunks;
+mod crc;
 mod lines;
 mod markers;
 mod original;
@@ -55,10 +57,11 @@ type Run = fn(&Path, &Task) -> Result<bool, String>;
 const COUNT: u64 = 20_000;
 
 /// The subjects, each with that number.
-const SUBJECTS: [(&str, Run, u64); 6] = [
+const SUBJECTS: [(&str, Run, u64); 7] = [
     ("text", subject::run::<text::Text>, COUNT),
     ("markers", subject::run::<markers::Markers>, COUNT),
     ("sound", subject::run::<sound::Sound>, COUNT),
+    ("crc", subject::run::<crc::Crc>, COUNT),
     ("checks", subject::run::<checks::Checks>, COUNT),
     ("builds", subject::run::<builds::Builds>, COUNT),
     // A case has a thousand reads and more.

@@ -13,6 +13,7 @@ use std::thread;
 const BATCH_BYTES: usize = 1 << 16;
 
 /// The answer to a case: its name, and the lines between `case NAME` and `end`.
+#[derive(Default)]
 pub struct Answer {
     name: String,
     lines: Vec<String>,

@@ -35,7 +35,7 @@ impl fmt::Display for Number {
 
 /// A case as a reader sees it.
 pub struct Text {
-    /// In the original's case language, without its first line and its last.
+    /// In the original's case language, without its first line and its last; nothing if the original is not asked.
     pub for_original: String,
     pub for_us: String,
 }
@@ -66,12 +66,15 @@ impl Saved {
         let kept: String = kept.iter().map(|&kept| if kept { '1' } else { '0' }).collect();
         let kept = if kept.is_empty() { NONE } else { &kept };
         let name = file.display();
+        let (mut alone, mut case) = (String::new(), String::new());
+        if !text.for_original.is_empty() {
+            alone = format!("# The original alone: target/oracle/target/release/scarletbook < {name}\n");
+            case = format!("\n{}", text.case());
+        }
         let mut lines = format!(
             "# A case on which this library and the original disagree. To compare it again:\n\
-             #   tools/differential/run.sh --replay {name}\n\
-             # The original alone: target/oracle/target/release/scarletbook < {name}\n\
-             # subject {subject}\n# seed {seed}\n# {number}\n# kept {kept}\n# checksum {checksum:016x}\n\n{}",
-            text.case()
+             #   tools/differential/run.sh --replay {name}\n{alone}\
+             # subject {subject}\n# seed {seed}\n# {number}\n# kept {kept}\n# checksum {checksum:016x}\n{case}"
         );
         let mut remark = |title: &str, text: &str| {
             lines += &format!("\n# {title}\n");

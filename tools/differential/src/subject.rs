@@ -5,13 +5,17 @@ use std::fmt::Display;
 use std::ops::Range;
 use std::path::Path;
 
-use crate::original::{Answer, Original};
+use crate::answers::Answers;
+use crate::original::Answer;
 use crate::progress::Progress;
 use crate::random::Random;
 use crate::saved::{Number, Saved, Text};
 
 pub trait Subject {
     const NAME: &'static str;
+    /// Whether the original's process is asked. If not, the subject has the original's function in itself, and no lines for
+    /// the process.
+    const ASKED: bool = true;
     type Case: Clone + PartialEq + Send;
     /// What the cases met, printed at the end.
     type Counts: Default + Display;
@@ -95,7 +99,7 @@ fn text<S: Subject>(case: &S::Case) -> Text {
 }
 
 fn all<S: Subject>(program: &Path, seed: u64, count: u64, failing: Failing<'_>) -> Result<bool, String> {
-    let mut original = Original::start(program)?;
+    let mut answers = Answers::start::<S>(program)?;
     let mut counts = S::Counts::default();
     let mut by_kind = BTreeMap::<String, u64>::new();
     let (mut same, mut failed) = (0u64, 0u64);
@@ -110,7 +114,7 @@ fn all<S: Subject>(program: &Path, seed: u64, count: u64, failing: Failing<'_>) 
         let lines = S::for_original(&case);
         (case, lines)
     });
-    original.ask_all(cases, |number, case, answer| {
+    answers.ask_all(cases, |number, case, answer| {
         progress.tell(|| format!("{} of {} cases, {failed} disagree", same + failed, fixed_count + count));
         let number = name(number);
         let found = S::compare(&case, &answer, &mut counts)
@@ -147,7 +151,7 @@ fn all<S: Subject>(program: &Path, seed: u64, count: u64, failing: Failing<'_>) 
     for (what, times) in &by_kind {
         println!("  {times:>8}  {what}");
     }
-    let Shrunk { number, case, kept, whole, found } = shrink::<S>(&mut original, smallest)?;
+    let Shrunk { number, case, kept, whole, found } = shrink::<S>(&mut answers, smallest)?;
     let text = text::<S>(&case);
     failing.save(seed, number, &kept, &text, &found)?;
     println!("\nthe smallest, from {number} in {} tries, saved in {}", kept.len(), failing.file.display());
@@ -184,14 +188,14 @@ struct Shrunk<C> {
 }
 
 /// Makes a failing case as small as it gets.
-fn shrink<S: Subject>(original: &mut Original, failure: Failure<S::Case>) -> Result<Shrunk<S::Case>, String> {
+fn shrink<S: Subject>(answers: &mut Answers, failure: Failure<S::Case>) -> Result<Shrunk<S::Case>, String> {
     let mut progress = Progress::new(S::NAME);
     let Failure { number, mut case, .. } = failure;
     let (mut kept, mut bytes) = (Vec::new(), 0);
     let whole = simplify::<S>(&mut case, &mut |simpler| {
         progress.tell(|| format!("a smaller case, {} tries", kept.len()));
         let lines = S::for_original(simpler);
-        let answer = original.ask("smallest", &lines).map_err(Halt::Error)?;
+        let answer = answers.ask("smallest", &lines).map_err(Halt::Error)?;
         bytes += lines.len() + answer.bytes();
         if bytes > ENOUGH_BYTES {
             return Err(Halt::Enough);
@@ -202,7 +206,7 @@ fn shrink<S: Subject>(original: &mut Original, failure: Failure<S::Case>) -> Res
         kept.push(fails);
         Ok(fails)
     })?;
-    let answer = original.ask("smallest", &S::for_original(&case))?;
+    let answer = answers.ask("smallest", &S::for_original(&case))?;
     let found = S::compare(&case, &answer, &mut S::Counts::default())?;
     Ok(Shrunk { number, case, kept, whole, found })
 }
@@ -236,8 +240,8 @@ fn again<S: Subject>(program: &Path, saved: &Saved) -> Result<bool, String> {
     let text = text::<S>(&case);
     let same = text.checksum() == saved.checksum;
 
-    let mut original = Original::start(program)?;
-    let answer = original.ask("smallest", &text.for_original)?;
+    let mut answers = Answers::start::<S>(program)?;
+    let answer = answers.ask("smallest", &text.for_original)?;
     let found = S::compare(&case, &answer, &mut S::Counts::default())?;
     println!("{}: {number} of seed {seed}, made smaller in {} tries", S::NAME, saved.kept.len());
     if !same {
@@ -259,7 +263,9 @@ fn again<S: Subject>(program: &Path, saved: &Saved) -> Result<bool, String> {
 
 /// Prints a case and what disagrees.
 fn print_case(text: &Text, found: &[Disagreement]) {
-    print_cut("for the original:", &text.case());
+    if !text.for_original.is_empty() {
+        print_cut("for the original:", &text.case());
+    }
     print_cut("for us:", &text.for_us);
     for Disagreement { what, expected, ours } in found {
         print_cut(what, &format!("{expected}\n{ours}"));
