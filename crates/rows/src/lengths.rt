@@ -14,15 +14,19 @@ fn one_less(x: u32) -> u32
 const LAST: u32 = 65_535;
 
 // Whether one of them is not 1 to 65,536. The numbers before them are joined bit by bit and tested once, so that the loop has no branch and is
-// done on many lengths at once.
+// done on many lengths at once; and it goes over two halves at a time, which is faster than one long run. The one in the middle is in both.
 pub fn lengths_wrong(lengths: &[u32]) -> bool
     ensures { λ r. ⌜ r ≡ lengthsWrong (now (lengths .entry)) ⌝ }
 {
-    let mut all: u32 = 0;
+    let second = lengths.len() / 2;
+    let half = lengths.len() - second;
+    let mut low: u32 = 0;
+    let mut high: u32 = 0;
     let mut i = 0;
-    while i < lengths.len() {
-        all = all | one_less(lengths[i]);
+    while i < half {
+        low = low | one_less(lengths[i]);
+        high = high | one_less(lengths[second + i]);
         i += 1;
     }
-    LAST < all
+    LAST < (low | high)
 }
