@@ -2,7 +2,7 @@
 use mathlib.Core.Path.{_≡_, refl, sym, ap, _∙_}
 use mathlib.Core.Bool.{Bool, true, false}
 use mathlib.Core.List.{List, [], _∷_, _++_, map, flatMap, append-nil, append-assoc}
-use Prim.Native.Nat.{ℕ, zero, suc, _+_, _%_, _^_, _<_}
+use Prim.Native.Nat.{ℕ, zero, suc, _+_, _%_, _^_, _≤_, _<_}
 use native.Mathlib.Omega.{arith}
 use lib.ListN.{length, take, getD, length-append, length-map}
 use Rattle.chunk.specs.Number.{be}
@@ -107,3 +107,9 @@ dst-bytes crc fs ls rest same fits =
     ∙ regroup name (be 8 (dataSize (sizes crc ls))) first (bytes (units crc fs)) (bytes rest)
     ∙ ap (λ (l : List ℕ). name ++ be 8 (dataSize (sizes crc ls)) ++ first ++ l ++ bytes rest) (units-bytes crc fs)
     ∙ ap (λ (n : ℕ). name ++ be 8 (dataSize (sizes crc ls)) ++ frte n ++ sound crc fs ++ bytes rest) count
+
+-- a unit has at most 29 bytes more than its frame
+pub unit-most : (crc : Bool) (l : ℕ) → unitSize crc l ≤ l + 29
+unfolding unitSize occupied
+unit-most false l = omega arith
+unit-most true l = omega arith

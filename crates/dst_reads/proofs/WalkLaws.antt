@@ -26,12 +26,6 @@ pub unit-sized : (crc : Bool) (l : ℕ) → 0 < unitSize crc l
 unfolding unitSize occupied
 unit-sized crc l = omega arith
 
--- and at most 29 more than its frame's length
-pub unit-most : (crc : Bool) (l : ℕ) → unitSize crc l ≤ l + 29
-unfolding unitSize occupied
-unit-most false l = omega arith
-unit-most true l = omega arith
-
 -- a number that has the bits of another is no smaller
 or-left : (a b : ℕ) → a ≤ bitOr a b
 or-left a b = omega (arith, or-add-and a b, and-le-r a b)

@@ -8,7 +8,8 @@ use lib.ListN.{getD}
 use borrow.Author.Needs.{needs}
 use Rattle.dst.specs.Start.{start}
 use Rattle.dst.specs.Unit.{unitSize, sizes}
-use Rattle.dst_reads.proofs.WalkLaws.{unit-most, block-on}
+use Rattle.dst.proofs.UnitLaws.{unit-most}
+use Rattle.dst_reads.proofs.WalkLaws.{block-on}
 use Rattle.dst_reads.proofs.walk.block_size.Statement.{statement}
 use Rattle.dst_reads.proofs.walk.block_size.Tie as tie
 

@@ -1,4 +1,4 @@
--- `unit::units` meets its contract. The loop's invariant: the sum is where unit i starts. Assumes nothing.
+-- `unit::units_of_many` meets its contract. The loop's invariant: the sum is where unit i starts. Assumes nothing.
 use mathlib.Core.Path.{_≡_}
 use Prim.Native.Nat.{_-_, _^_, _≤_, min}
 use native.Mathlib.Numerals.{add-one}
@@ -9,8 +9,8 @@ use Rattle.dst.specs.Unit.{unitSize, sizes}
 use Rattle.dst.specs.Start.{start}
 use Rattle.dst.proofs.StartLaws.{start-zero, start-all}
 use Rattle.dst.proofs.UnitLaws.{start-next}
-use Rattle.dst.proofs.unit.units.Statement.{statement}
-use Rattle.dst.proofs.unit.units.Tie as tie
+use Rattle.dst.proofs.unit.units_of_many.Statement.{statement}
+use Rattle.dst.proofs.unit.units_of_many.Tie as tie
 use denote.Ref.{now}
 
 abbrev Inv-loop : tie.InvT-loop
@@ -39,8 +39,8 @@ returns c =
     let all = start-all (sizes (s .args .crc) ls) (turn .loop .i) (omega (arith, c .loop-test .left, length-map ls (unitSize (s .args .crc)))) in
     rw all at (turn .loop .inv .1)
 
-pub units-spec : {M : Type 1} → statement M
-units-spec =
+pub units-of-many-spec : {M : Type 1} → statement M
+units-of-many-spec =
     tie.close
     (tie.spec Inv-loop μ-loop loop-holds (λ c. search needs) (λ c. search needs) (λ c κs. tt) (λ c κs. tt) (λ c. search needs)
     (λ c. search needs) loop-again returns)
