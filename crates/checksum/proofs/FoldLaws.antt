@@ -10,7 +10,7 @@ use lib.Dec.{lit<}
 use lib.Pow.{split, pow-pos, pow-mono}
 use lib.Bits.{bitXor, xor-shr, xor-mod, xor-shifted, xor-zero-l, xor-zero-r, xor-self, xor-lt}
 use Rattle.checksum.specs.Crc.{bit, bits, byteOf}
-use Rattle.checksum.specs.Fold.{feed, after}
+use Rattle.checksum.specs.Steps.{feed, afterUnits}
 use Rattle.checksum.proofs.XorLaws.{xor-assoc, xor-swap, xor-again, xor-meet}
 use Rattle.checksum.proofs.CrcLaws.{bit-xor, bit-lt, bit-small, bits-xor, bits-lt, byte-lt, byte-xor}
 
@@ -142,41 +142,41 @@ feed-none zero r = refl
 feed-none (suc n) r =
     ap (λ (x : ℕ). feed n x 0) (byte-none r) ∙ feed-none n (bits 8 r) ∙ bits-bits 8 (8 * n) r ∙ ap (λ (x : ℕ). bits x r) (sym (mul-suc 8 n))
 
-after-lt : (n k r : ℕ) (f : ℕ → ℕ) → r < 2 ^ 32 → after n r f k < 2 ^ 32
-unfolding after
+after-lt : (n k r : ℕ) (f : ℕ → ℕ) → r < 2 ^ 32 → afterUnits n r f k < 2 ^ 32
+unfolding afterUnits
 after-lt n zero r f h = h
-after-lt n (suc k) r f h = feed-lt n (after n r f k) (f k) (after-lt n k r f h)
+after-lt n (suc k) r f h = feed-lt n (afterUnits n r f k) (f k) (after-lt n k r f h)
 
-pub after-ext : (n k r : ℕ) (f g : ℕ → ℕ) → ((j : ℕ) → j < k → f j ≡ g j) → after n r f k ≡ after n r g k
-unfolding after
+pub after-ext : (n k r : ℕ) (f g : ℕ → ℕ) → ((j : ℕ) → j < k → f j ≡ g j) → afterUnits n r f k ≡ afterUnits n r g k
+unfolding afterUnits
 after-ext n zero r f g e = refl
 after-ext n (suc k) r f g e = ap₂ (feed n) (after-ext n k r f g (λ j l. e j (omega arith))) (e k (omega arith))
 
 after-xor : (n k r s : ℕ) (f d h : ℕ → ℕ) → r < 2 ^ 32 → s < 2 ^ 32 → ((j : ℕ) → j < k → h j ≡ bitXor (f j) (d j))
-    → after n (bitXor r s) h k ≡ bitXor (after n r f k) (after n s d k)
-unfolding after
+    → afterUnits n (bitXor r s) h k ≡ bitXor (afterUnits n r f k) (afterUnits n s d k)
+unfolding afterUnits
 after-xor n zero r s f d h hr hs e = refl
 after-xor n (suc k) r s f d h hr hs e =
     ap₂ (feed n) (after-xor n k r s f d h hr hs (λ j l. e j (omega arith))) (e k (omega arith))
-    ∙ feed-xor n (after n r f k) (after n s d k) (f k) (d k) (after-lt n k r f hr) (after-lt n k s d hs)
+    ∙ feed-xor n (afterUnits n r f k) (afterUnits n s d k) (f k) (d k) (after-lt n k r f hr) (after-lt n k s d hs)
 
 -- the first unit by itself
-after-head : (n k r : ℕ) (f : ℕ → ℕ) → after n r f (suc k) ≡ after n (feed n r (f 0)) (λ j. f (suc j)) k
-unfolding after
+after-head : (n k r : ℕ) (f : ℕ → ℕ) → afterUnits n r f (suc k) ≡ afterUnits n (feed n r (f 0)) (λ j. f (suc j)) k
+unfolding afterUnits
 after-head n zero r f = refl
 after-head n (suc k) r f = ap (λ (x : ℕ). feed n x (f (suc k))) (after-head n k r f)
 
 -- t units of 0
 pub after-none : (n t k r : ℕ) (d : ℕ → ℕ) → ((j : ℕ) → k ≤ j → j < k + t → d j ≡ 0)
-    → after n r d (k + t) ≡ bits (t * (8 * n)) (after n r d k)
-unfolding after bits
-after-none n zero k r d e = ap (after n r d) (add-zero k) ∙ ap (λ (x : ℕ). bits x (after n r d k)) (sym (zero-mul (8 * n)))
+    → afterUnits n r d (k + t) ≡ bits (t * (8 * n)) (afterUnits n r d k)
+unfolding afterUnits bits
+after-none n zero k r d e = ap (afterUnits n r d) (add-zero k) ∙ ap (λ (x : ℕ). bits x (afterUnits n r d k)) (sym (zero-mul (8 * n)))
 after-none n (suc t) k r d e =
-    ap (after n r d) (add-suc k t)
+    ap (afterUnits n r d) (add-suc k t)
     ∙ ap₂ (feed n) (after-none n t k r d (λ j l m. e j l (omega arith))) (e (k + t) (omega arith) (omega arith))
-    ∙ feed-none n (bits (t * (8 * n)) (after n r d k))
-    ∙ bits-bits (t * (8 * n)) (8 * n) (after n r d k)
-    ∙ ap (λ (x : ℕ). bits x (after n r d k)) (add-comm (8 * n) (t * (8 * n)) ∙ sym (suc-mul t (8 * n)))
+    ∙ feed-none n (bits (t * (8 * n)) (afterUnits n r d k))
+    ∙ bits-bits (t * (8 * n)) (8 * n) (afterUnits n r d k)
+    ∙ ap (λ (x : ℕ). bits x (afterUnits n r d k)) (add-comm (8 * n) (t * (8 * n)) ∙ sym (suc-mul t (8 * n)))
 
 -- ---- a unit is left out
 
@@ -192,8 +192,8 @@ module _ (n : ℕ) (fold : (r : ℕ) → r < 2 ^ 32 → Folds (8 * n) r) where
 
   -- a unit q, and q again 1, 28 and 32 units later, are nothing
   none : (q : ℕ) (d : ℕ → ℕ) → d 0 ≡ q → d 27 ≡ q → d 31 ≡ q
-      → ((j : ℕ) → j < 32 → (j ≡ 0 → ⊥) → (j ≡ 27 → ⊥) → (j ≡ 31 → ⊥) → d j ≡ 0) → after n (feed n 0 q) d 32 ≡ 0
-  unfolding after
+      → ((j : ℕ) → j < 32 → (j ≡ 0 → ⊥) → (j ≡ 27 → ⊥) → (j ≡ 31 → ⊥) → d j ≡ 0) → afterUnits n (feed n 0 q) d 32 ≡ 0
+  unfolding afterUnits
   none q d e₀ e₂₇ e₃₁ e =
       let r = feed n 0 q in
       let h : r < 2 ^ 32 = feed-lt n 0 q (pow-pos 32) in
@@ -201,14 +201,14 @@ module _ (n : ℕ) (fold : (r : ℕ) → r < 2 ^ 32 → Folds (8 * n) r) where
       let b = bits (4 * w) r in
       let z = bitXor (bits (1 * w) r) r in
       let hz : z < 2 ^ 32 = xor-lt 32 (bits (1 * w) r) r (bits-lt (1 * w) r h) h in
-      let one : after n r d 1 ≡ z = ap (feed n r) e₀ ∙ parts r q h in
-      let run : after n r d 27 ≡ bits (26 * w) z =
+      let one : afterUnits n r d 1 ≡ z = ap (feed n r) e₀ ∙ parts r q h in
+      let run : afterUnits n r d 27 ≡ bits (26 * w) z =
       after-none n 26 1 r d (λ j l m. e j (omega arith) (λ x. omega arith) (λ x. omega arith) (λ x. omega arith)) ∙ ap (bits (26 * w)) one in
       let y = bitXor (bits (27 * w) z) r in
       let hy : y < 2 ^ 32 = xor-lt 32 (bits (27 * w) z) r (bits-lt (27 * w) z hz) h in
-      let two : after n r d 28 ≡ y =
+      let two : afterUnits n r d 28 ≡ y =
       ap₂ (feed n) run e₂₇ ∙ parts (bits (26 * w) z) q (bits-lt (26 * w) z hz) ∙ ap (λ (x : ℕ). bitXor x r) (steps w 1 26 z) in
-      let rest : after n r d 31 ≡ bits (3 * w) y =
+      let rest : afterUnits n r d 31 ≡ bits (3 * w) y =
       after-none n 3 28 r d (λ j l m. e j (omega arith) (λ x. omega arith) (λ x. omega arith) (λ x. omega arith)) ∙ ap (bits (3 * w)) two in
       ap₂ (feed n) rest e₃₁
       ∙ parts (bits (3 * w) y) q (bits-lt (3 * w) y hy)
@@ -223,17 +223,17 @@ module _ (n : ℕ) (fold : (r : ℕ) → r < 2 ^ 32 → Folds (8 * n) r) where
   -- 32 units f, and m after them, are 32 units g: without the first, and with it added to three
   pub leave-out : (m : ℕ) (f e g : ℕ → ℕ) → ((j : ℕ) → j < 31 → e j ≡ f (suc j)) → e 31 ≡ m
       → g 0 ≡ bitXor (e 0) (f 0) → g 27 ≡ bitXor (e 27) (f 0) → g 31 ≡ bitXor (e 31) (f 0)
-      → ((j : ℕ) → j < 32 → (j ≡ 0 → ⊥) → (j ≡ 27 → ⊥) → (j ≡ 31 → ⊥) → g j ≡ e j) → after n 0 g 32 ≡ feed n (after n 0 f 32) m
-  unfolding after
+      → ((j : ℕ) → j < 32 → (j ≡ 0 → ⊥) → (j ≡ 27 → ⊥) → (j ≡ 31 → ⊥) → g j ≡ e j) → afterUnits n 0 g 32 ≡ feed n (afterUnits n 0 f 32) m
+  unfolding afterUnits
   leave-out m f e g he hm g₀ g₂₇ g₃₁ hg =
       let r = feed n 0 (f 0) in
       let h : r < 2 ^ 32 = feed-lt n 0 (f 0) (pow-pos 32) in
       let d : ℕ → ℕ = λ j. bitXor (e j) (g j) in
       let at : (j : ℕ) → g j ≡ bitXor (e j) (f 0) → d j ≡ f 0 = λ j x. ap (bitXor (e j)) x ∙ xor-again (e j) (f 0) in
-      let lost : after n r d 32 ≡ 0 =
+      let lost : afterUnits n r d 32 ≡ 0 =
       none (f 0) d (at 0 g₀) (at 27 g₂₇) (at 31 g₃₁) (λ j l x y z. ap (bitXor (e j)) (hg j l x y z) ∙ xor-self (e j)) in
-      ap (λ (x : ℕ). after n x g 32) (sym (xor-self r))
+      ap (λ (x : ℕ). afterUnits n x g 32) (sym (xor-self r))
       ∙ after-xor n 32 r r e d g h h (λ j l. sym (xor-again (e j) (g j)))
-      ∙ ap (bitXor (after n r e 32)) lost
-      ∙ xor-zero-r (after n r e 32)
+      ∙ ap (bitXor (afterUnits n r e 32)) lost
+      ∙ xor-zero-r (afterUnits n r e 32)
       ∙ ap₂ (feed n) (after-ext n 31 r e (λ j. f (suc j)) he ∙ sym (after-head n 31 0 f)) hm

@@ -14,7 +14,7 @@ use lib.ListN.{length, drop, getD, set, replicate, length-set, getD-replicate}
 use lib.Seq.{drop-cons, getD-set-same, getD-set-other}
 use lib.Bits.{bitXor}
 use Rattle.checksum.specs.Crc.{bit, bits, byteOf, bytesOf}
-use Rattle.checksum.specs.Fold.{feed, after, ringOf, Pushed}
+use Rattle.checksum.specs.Steps.{feed, afterUnits, ringOf, Pushed}
 use Rattle.checksum.proofs.FoldLaws.{Folds, folds, leave-out, after-ext, after-none}
 
 -- ---- bytes
@@ -77,8 +77,8 @@ feed-byte r u = refl
 pow-eight : (k : ℕ) → 2 ^ (k + 3) ≡ 8 * 2 ^ k
 pow-eight k = pow-add 2 k 3 ∙ mul-comm (2 ^ k) 8
 
-pub after-next : (n r : ℕ) (f : ℕ → ℕ) (j : ℕ) → feed n (after n r f j) (f j) ≡ after n r f (j + 1)
-unfolding after
+pub after-next : (n r : ℕ) (f : ℕ → ℕ) (j : ℕ) → feed n (afterUnits n r f j) (f j) ≡ afterUnits n r f (j + 1)
+unfolding afterUnits
 after-next n r f j = rw add-one
 
 bits-zero : (n : ℕ) → bits n 0 ≡ 0
@@ -88,7 +88,7 @@ bits-zero (suc n) = bits-zero n
 
 -- a ring of 32 units of 0
 pub ring-start : (n : ℕ) → ringOf n (replicate 32 0) 0 ≡ 0
-unfolding ringOf after
+unfolding ringOf afterUnits
 ring-start n =
     after-none n 32 0 0 (λ j. getD (replicate 32 0) ((0 + j) % 32) 0) (λ j _ _. getD-replicate 32 ((0 + j) % 32) 0 0 (mod-lt (0 + j) (lit< tt))) ∙ bits-zero (32 * (8 * n))
 

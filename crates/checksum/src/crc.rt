@@ -3,7 +3,7 @@ ghost use mathlib.Core.Path.{_≡_};
 ghost use Prim.Native.Nat.{_*_, _≤_};
 ghost use lib.ListN.{length, drop};
 ghost use Rattle.checksum.specs.Crc.{Right, byteOf, bytesOf, crcOf};
-ghost use Rattle.checksum.specs.Fold.{ringOf};
+ghost use Rattle.checksum.specs.Steps.{ringOf};
 use crate::fold::folded;
 use crate::fold::halved;
 

@@ -8,7 +8,7 @@ ghost use mathlib.Core.Path.{_≡_};
 ghost use Prim.Native.Nat.{_+_, _*_, _^_, _≤_, _<_};
 ghost use lib.ListN.{length, drop};
 ghost use Rattle.checksum.specs.Crc.{bytesOf, crcOf};
-ghost use Rattle.checksum.specs.Fold.{Next, Pushed, Halved, ringOf};
+ghost use Rattle.checksum.specs.Steps.{Next, Pushed, Halved, ringOf};
 
 // One byte more below a number.
 fn push(w: u64, b: u8) -> u64
@@ -55,7 +55,7 @@ fn push_unit(ring: &mut [u64; 32], i: usize, unit: u64)
 }
 
 // The first n words of a content in a ring. The first of the 32 stands at n % 32.
-pub fn folded(content: &[u8], n: usize) -> [u64; 32]
+pub(crate) fn folded(content: &[u8], n: usize) -> [u64; 32]
     requires { ⌜ n * 8 ≤ length (now content) ⌝ }
     ensures { λ a. ⌜ bytesOf (ringOf 8 a n) (drop (n * 8) (now (content .entry))) ≡ crcOf (now (content .entry)) ⌝ }
 {
@@ -69,7 +69,7 @@ pub fn folded(content: &[u8], n: usize) -> [u64; 32]
 }
 
 // The halves of the units of a ring, from place n on, in a ring of 32: of each the low half first, which is below `half`.
-pub fn halved(units: &[u64; 32], n: usize, half: u64) -> [u64; 32]
+pub(crate) fn halved(units: &[u64; 32], n: usize, half: u64) -> [u64; 32]
     requires { ⌜ (n < 2 ^ 63) × (0 < half) ⌝ }
     ensures { λ r. ⌜ Halved (now (units .entry)) n half r ⌝ }
 {

@@ -5,7 +5,7 @@ use native.Mathlib.Omega.{arith}
 use lib.ListN.{getD}
 use mathlib.Core.List.{List}
 use Rattle.checksum.specs.Crc.{byteOf}
-use Rattle.checksum.specs.Fold.{feed, after, ringOf}
+use Rattle.checksum.specs.Steps.{feed, afterUnits, ringOf}
 use Rattle.checksum.proofs.RingLaws.{after-next, feed-byte}
 use Rattle.checksum.proofs.crc.fed.Statement.{statement}
 use Rattle.checksum.proofs.crc.fed.Tie as tie
@@ -15,13 +15,13 @@ abbrev bytes-of : List ℕ → ℕ → ℕ
 bytes-of a k = getD a ((0 + k) % 32) 0
 
 abbrev Inv-loop : tie.InvT-loop
-Inv-loop table bytes s₀ j₀ s j = (j ≤ 32) × (s ≡ after 1 0 (bytes-of bytes) j)
+Inv-loop table bytes s₀ j₀ s j = (j ≤ 32) × (s ≡ afterUnits 1 0 (bytes-of bytes) j)
 
 abbrev μ-loop : tie.MeasureT-loop
 μ-loop table bytes s₀ j₀ s j = 32 - j
 
 loop-holds : tie.Need-loop-holds Inv-loop μ-loop
-unfolding after
+unfolding afterUnits
 loop-holds c = (omega arith, refl)
 
 next-requires : tie.Need-next-requires Inv-loop μ-loop
@@ -35,7 +35,7 @@ loop-again c =
       omega arith,
       c .next .ensures
           ∙ ap₂ (λ (r k : ℕ). byteOf r (getD (c .before .before .before .before .args .bytes .now) k 0 % 256)) (l .inv .1) (sym h)
-          ∙ sym (feed-byte (after 1 0 f (l .j)) (f (l .j)))
+          ∙ sym (feed-byte (afterUnits 1 0 f (l .j)) (f (l .j)))
           ∙ after-next 1 0 f (l .j),
     )
 
@@ -44,7 +44,7 @@ unfolding ringOf
 returns c =
     let l = c .before .loop in
     let h : l .j ≡ 32 = omega arith in
-    l .inv .1 ∙ ap (after 1 0 (bytes-of (c .before .before .args .bytes .now))) h
+    l .inv .1 ∙ ap (afterUnits 1 0 (bytes-of (c .before .before .args .bytes .now))) h
 
 pub fed-spec : {M : Type 1} → statement M
 fed-spec =

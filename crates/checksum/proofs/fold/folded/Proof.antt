@@ -4,7 +4,7 @@ use Prim.Native.Nat.{ℕ, _+_, _*_, _-_, _≤_}
 use native.Mathlib.Omega.{arith}
 use lib.ListN.{length, drop}
 use Rattle.checksum.specs.Crc.{bytesOf, crcOf}
-use Rattle.checksum.specs.Fold.{ringOf}
+use Rattle.checksum.specs.Steps.{ringOf}
 use Rattle.checksum.proofs.RingLaws.{ring-start}
 use Rattle.checksum.proofs.fold.folded.Statement.{statement}
 use Rattle.checksum.proofs.fold.folded.Tie as tie

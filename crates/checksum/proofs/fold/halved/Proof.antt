@@ -4,7 +4,7 @@ use mathlib.Core.List.{List}
 use Prim.Native.Nat.{ℕ, suc, _+_, _*_, _-_, _%_, _^_, _≤_}
 use native.Mathlib.Omega.{arith}
 use lib.ListN.{length, getD}
-use Rattle.checksum.specs.Fold.{feed, after, ringOf}
+use Rattle.checksum.specs.Steps.{feed, afterUnits, ringOf}
 use Rattle.checksum.proofs.RingLaws.{ring-start, ring-round, halves-next, after-next}
 use Rattle.checksum.proofs.fold.halved.Statement.{statement}
 use Rattle.checksum.proofs.fold.halved.Tie as tie
@@ -15,13 +15,13 @@ units-of a n j = getD a ((n + j) % 32) 0
 
 abbrev Inv-loop : tie.InvT-loop
 Inv-loop units n half ring₀ j₀ ring j =
-    (j ≤ 32) × (length ring ≡ 32) × ((k : ℕ) → half ≡ 2 ^ (8 * 2 ^ k) → ringOf (2 ^ k) ring (j * 2) ≡ after (2 ^ suc k) 0 (units-of units n) j)
+    (j ≤ 32) × (length ring ≡ 32) × ((k : ℕ) → half ≡ 2 ^ (8 * 2 ^ k) → ringOf (2 ^ k) ring (j * 2) ≡ afterUnits (2 ^ suc k) 0 (units-of units n) j)
 
 abbrev μ-loop : tie.MeasureT-loop
 μ-loop units n half ring₀ j₀ ring j = 32 - j
 
 loop-holds : tie.Need-loop-holds Inv-loop μ-loop
-unfolding after
+unfolding afterUnits
 loop-holds c = (omega arith, refl, λ k e. ring-start (2 ^ k))
 
 push-unit-requires : tie.Need-push-unit-requires Inv-loop μ-loop
@@ -53,7 +53,7 @@ returns c =
     let h : l .j ≡ 32 = omega arith in
     λ k e.
     sym (ring-round (2 ^ k) (l .ring)) ∙ ap (λ (j : ℕ). ringOf (2 ^ k) (l .ring) (j * 2)) (sym h) ∙ l .inv .2 k e
-    ∙ ap (after (2 ^ suc k) 0 (units-of (g .units .now) (g .n))) h
+    ∙ ap (afterUnits (2 ^ suc k) 0 (units-of (g .units .now) (g .n))) h
 
 pub halved-spec : {M : Type 1} → statement M
 halved-spec =

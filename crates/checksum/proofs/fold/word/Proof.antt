@@ -5,7 +5,7 @@ use native.Mathlib.Omega.{arith}
 use borrow.Author.Needs.{needs}
 use lib.ListN.{drop}
 use Rattle.checksum.specs.Crc.{bytesOf}
-use Rattle.checksum.specs.Fold.{feed}
+use Rattle.checksum.specs.Steps.{feed}
 use Rattle.checksum.proofs.RingLaws.{low, low-none, low-next, low-fed}
 use Rattle.checksum.proofs.fold.word.Statement.{statement}
 use Rattle.checksum.proofs.fold.word.Tie as tie

@@ -1,5 +1,5 @@
--- Units of some bytes in the CRC, the first byte lowest, and a ring of 32 of them: what the steps of the CRC promise each other. Only private
--- functions promise these. Assumes nothing.
+-- Steps of the CRC: units of some bytes, the first byte lowest, and a ring of 32 of them.
+-- Only contracts of private functions cite these; no promise of a public function does. Assumes nothing.
 use Prim.Native.Nat.{ℕ, zero, suc, _+_, _*_, _/_, _%_, _^_}
 use mathlib.Core.List.{List}
 use mathlib.Core.Path.{_≡_}
@@ -12,13 +12,13 @@ feed zero r w = r
 feed (suc n) r w = feed n (byteOf r (w % 256)) (w / 256)
 
 -- the register r after the units f 0, .., f (k - 1), of n bytes each
-unfoldable pub after : ℕ → ℕ → (ℕ → ℕ) → ℕ → ℕ
-after n r f zero = r
-after n r f (suc k) = feed n (after n r f k) (f k)
+unfoldable pub afterUnits : ℕ → ℕ → (ℕ → ℕ) → ℕ → ℕ
+afterUnits n r f zero = r
+afterUnits n r f (suc k) = feed n (afterUnits n r f k) (f k)
 
 -- the register after a ring of 32 units of n bytes, from the place i on
 unfoldable pub ringOf : ℕ → List ℕ → ℕ → ℕ
-ringOf n a i = after n 0 (λ j. getD a ((i + j) % 32) 0) 32
+ringOf n a i = afterUnits n 0 (λ j. getD a ((i + j) % 32) 0) 32
 
 -- w is the next 8 bytes of s, from the place i on: it does to any register what they do
 abbrev pub Next : List ℕ → ℕ → ℕ → Type 0
