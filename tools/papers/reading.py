@@ -17,7 +17,7 @@ FILE = re.compile(r"^\| \[(\w+): specs/(\w+)\]\([^)]*\) \| (\d*) \|(.*)$")
 NAMES = re.compile(r"^\| (`.*`) \| \[(\w+): specs/(\w+)\]\([^)]*\) \|")
 TOTAL = re.compile(r"^All [\d,]+ lines, about \d+ minutes\.")
 LINES_A_MINUTE = 10
-PRIVATE = {"Steps", "Pass", "Table", "Measure"}
+PRIVATE = {"Steps", "Pass", "Table", "Measure", "Sized"}
 PRIVATE_TOO = {("header_trailer", "Fill")}
 HEAD = re.compile(r"^(?:  )?(?:(?:abbrev|unfoldable) )?(?:pub )?(?:record |data )?([^\s:(){}=]+)(?= |$)")
 WORD = re.compile(r"[^\s(){}\[\],;:λ.]+")

@@ -1,7 +1,7 @@
 -- A unit may be left out of a content if it is added to the units 1, 28 and 32 after it, whatever power of 2 its number of bits is.
--- Why, in three steps: what a register is after 32 bits more, is the polynomial itself (`once`); the law for w bits, applied twice, is the law
--- for 2 w bits, since what is added twice is nothing (`twice`); so it holds for all powers of 2 (`folds`), and four equal units at these
--- distances leave nothing (`none`). Assumes nothing.
+-- 1. 32 bit steps of a register are its 31 steps, its 4 steps and itself, added: the polynomial (`once`).
+-- 2. The law for w bits, applied twice, is that for 2 w bits, since what is added twice is nothing (`twice`); so it holds for each power of 2 (`folds`).
+-- 3. A unit, and the same unit at these three places, leave nothing (`none`); so it may be left out (`leave-out`). Assumes nothing.
 use mathlib.Core.Path.{_≡_, refl, sym, ap, ap₂, _∙_, subst}
 use Prim.Native.Nat.{ℕ, zero, suc, _+_, _*_, _/_, _%_, _^_, _≤_, _<_}
 use native.Mathlib.Nat.{mod-lt, le-refl, add-zero, add-suc, add-comm, add-mul, mul-add, mul-suc, suc-mul, one-mul, zero-mul, pow-suc}
@@ -36,7 +36,7 @@ steps w s t r = bits-bits (t * w) (s * w) r ∙ ap (λ (x : ℕ). bits x r) (sym
 
 -- ---- the polynomial and its squares
 
--- a step of 32 units of w bits is the steps of 31, of 4 and of no units
+-- 32 w bit steps do what 31 w, 4 w and no steps do, added
 abbrev pub Folds : ℕ → ℕ → Type 0
 Folds w r = bits (32 * w) r ≡ bitXor (bits (31 * w) r) (bitXor (bits (4 * w) r) r)
 
@@ -111,7 +111,7 @@ twice w f r h =
         ap (bitXor (bitXor a (bitXor b c))) (xor-swap b (bitXor d e) c (bitXor e r) ∙ ap (bitXor (bitXor b c)) (xor-meet d e r))
         ∙ xor-meet a (bitXor b c) (bitXor d r)
 
--- the polynomial's power of each 2 ^ k
+-- the law for 2 ^ k bits
 pub folds : (k r : ℕ) → r < 2 ^ 32 → Folds (2 ^ k) r
 folds zero = once
 folds (suc k) = subst (λ (w : ℕ). (r : ℕ) → r < 2 ^ 32 → Folds w r) (omega (arith, pow-suc 2 k)) (twice (2 ^ k) (folds k))
@@ -220,7 +220,7 @@ module _ (n : ℕ) (fold : (r : ℕ) → r < 2 ^ 32 → Folds (8 * n) r) where
       ∙ xor-assoc (bitXor a (bitXor b r)) a (bitXor b r)
       ∙ xor-self (bitXor a (bitXor b r))
 
-  -- 32 units f, and m after them, are 32 units g: without the first, and with it added to three
+  -- 32 units f, and m after them, have the register of 32 units g: e, which is the last 31 of f and m, with the first of f added to three
   pub leave-out : (m : ℕ) (f e g : ℕ → ℕ) → ((j : ℕ) → j < 31 → e j ≡ f (suc j)) → e 31 ≡ m
       → g 0 ≡ bitXor (e 0) (f 0) → g 27 ≡ bitXor (e 27) (f 0) → g 31 ≡ bitXor (e 31) (f 0)
       → ((j : ℕ) → j < 32 → (j ≡ 0 → ⊥) → (j ≡ 27 → ⊥) → (j ≡ 31 → ⊥) → g j ≡ e j) → afterUnits n 0 g 32 ≡ feed n (afterUnits n 0 f 32) m

@@ -92,7 +92,7 @@ unfolding ringOf afterUnits
 ring-start n =
     after-none n 32 0 0 (λ j. getD (replicate 32 0) ((0 + j) % 32) 0) (λ j _ _. getD-replicate 32 ((0 + j) % 32) 0 0 (mod-lt (0 + j) (lit< tt))) ∙ bits-zero (32 * (8 * n))
 
--- once around
+-- 64 units on: the same place
 pub ring-round : (n : ℕ) (a : List ℕ) → ringOf n a 64 ≡ ringOf n a 0
 unfolding ringOf
 ring-round n a =
@@ -108,6 +108,8 @@ halves-next k half u r s t e p q =
     ∙ ap₂ (λ (x h : ℕ). feed (2 ^ k) x (u / h)) (p ∙ ap (λ (h : ℕ). feed (2 ^ k) r (u % h)) e) e
     ∙ sym (ap (λ (n : ℕ). feed n r u) d ∙ feed-cut (2 ^ k) (2 ^ k) r u)
 
+-- A UNIT m MORE. The places o, p and s: of the first unit, and of those 1 and 28 after it; a₁ to a₃: the ring after each store; e: m in the place of the first
+-- unit, and nothing added
 module _ (a : List ℕ) (i m : ℕ) (size : length a ≡ 32) where
   abbrev o : ℕ
   o = i % 32

@@ -20,14 +20,14 @@ afterUnits n r f (suc k) = feed n (afterUnits n r f k) (f k)
 unfoldable pub ringOf : ℕ → List ℕ → ℕ → ℕ
 ringOf n a i = afterUnits n 0 (λ j. getD a ((i + j) % 32) 0) 32
 
--- w is the next 8 bytes of s, from the place i on: it does to any register what they do
+-- w stands for the next 8 bytes of s, from the place i on: it does to any register what they do
 abbrev pub Next : List ℕ → ℕ → ℕ → Type 0
 Next s i w = (r : ℕ) → bytesOf r (drop i s) ≡ bytesOf (feed 8 r w) (drop (i + 8) s)
 
--- the ring b, from the place after i on, is the ring a from i on and one unit more, whether units have 1, 2, 4, 8 or so many bytes
+-- the ring b, from the place after i on, has the register of the ring a from i on and one unit more, for units of 2 ^ k bytes and every k
 abbrev pub Pushed : List ℕ → ℕ → ℕ → List ℕ → Type 0
 Pushed a i u b = (k : ℕ) → ringOf (2 ^ k) b (i + 1) ≡ feed (2 ^ k) (ringOf (2 ^ k) a i) u
 
--- the ring b of halves is the ring a from n on, where `half` is past the largest half
+-- the ring b of halves has the register of the ring a from n on, where `half` is one past the largest half
 abbrev pub Halved : List ℕ → ℕ → ℕ → List ℕ → Type 0
 Halved a n half b = (k : ℕ) → half ≡ 2 ^ (8 * 2 ^ k) → ringOf (2 ^ k) b 0 ≡ ringOf (2 ^ suc k) a n

@@ -298,8 +298,8 @@ fn words(table: &[u32; 256], content: &[u8], n: usize) -> u32
     requires { ⌜ Right (now table) × (n * 8 ≤ length (now content)) ⌝ }
     ensures { λ r. ⌜ bytesOf r (drop (n * 8) (now (content .entry))) ≡ crcOf (now (content .entry)) ⌝ }
 {
-    let words = folded(content, n);
-    let halves = halved(&words, n, 0x1_0000_0000);
+    let ring = folded(content, n);
+    let halves = halved(&ring, n, 0x1_0000_0000);
     let quarters = halved(&halves, 0, 0x1_0000);
     let bytes = halved(&quarters, 0, 0x100);
     fed(table, &bytes)

@@ -2,15 +2,17 @@
 //
 // Why it may be done. The polynomial P = x^32 + x^31 + x^4 + 1 has four terms. Bits are added without a carry, so that the square of a sum is
 // the sum of the squares: of P the square has four terms too, and so have its square and each further one, P^w = x^32w + x^31w + x^4w + 1 for each
-// power w of 2. P divides P^w. So four units of w bits that are the same, the second 1, the third 28 and the fourth 32 units after the first,
-// have the remainder 0, and a unit may be left out if it is added to the units 1, 28 and 32 after it.
+// power w of 2. P divides P^w. A unit is a run of w bits of the content, a later unit having lower powers of x. The same unit four times, at the powers
+// 32w, 31w, 4w and 0, so 1, 28 and 32 units after the first, is a multiple of P^w and has the remainder 0: adding these four changes no CRC. It
+// makes the first unit 0, and zeros in front change nothing, since the register starts at 0. So a unit may be left out if it is added to the units
+// 1, 28 and 32 after it. How a u64 holds a unit's bytes makes no difference, as units are only added.
 ghost use mathlib.Core.Path.{_≡_};
 ghost use Prim.Native.Nat.{_+_, _*_, _^_, _≤_, _<_};
 ghost use lib.ListN.{length, drop};
 ghost use Rattle.checksum.specs.Crc.{bytesOf, crcOf};
 ghost use Rattle.checksum.specs.Steps.{Next, Pushed, Halved, ringOf};
 
-// One byte more below a number.
+// One byte more below a number. That b is a byte is said so that its caller sees that the next one fits.
 fn push(w: u64, b: u8) -> u64
     requires { ⌜ w < 2 ^ 56 ⌝ }
     ensures { λ r. ⌜ (r ≡ w * 256 + b) × (b < 256) ⌝ }
@@ -46,11 +48,11 @@ fn push_unit(ring: &mut [u64; 32], i: usize, unit: u64)
     ensures { λ _. ⌜ (length (now (ring .exit)) ≡ 32) × Pushed (now (ring .entry)) i unit (now (ring .exit)) ⌝ }
 {
     let first = i % 32;
-    let one = (i + 1) % 32;
-    let four = (i + 28) % 32;
+    let by_1 = (i + 1) % 32;
+    let by_28 = (i + 28) % 32;
     let q = ring[first];
-    ring[one] = ring[one] ^ q;
-    ring[four] = ring[four] ^ q;
+    ring[by_1] = ring[by_1] ^ q;
+    ring[by_28] = ring[by_28] ^ q;
     ring[first] = unit ^ q;
 }
 

@@ -27,10 +27,6 @@ dataSize ss = moved 18 (sum ss)
 unfoldable pub head : Bool → List ℕ → List ℕ
 head crc ls = ascii "DST " ++ be 8 (dataSize (sizes crc ls)) ++ frte (length ls)
 
--- the same, of so many frames whose units have so many bytes together
-unfoldable pub headOf : ℕ → ℕ → List ℕ
-headOf bytes frames = ascii "DST " ++ be 8 (moved 18 bytes) ++ frte frames
-
 -- the DST chunk, before others
 unfoldable pub dst : Bool → List Frame → Chunks → Chunks
 dst crc fs rest = node (ascii "DST ") [] (leaf (ascii "FRTE") (rate (length fs)) (units crc fs)) rest

@@ -1,6 +1,7 @@
 // The DST chunk up to its first frame.
 ghost use Rattle.chunk.specs.Append.{Appended};
-ghost use Rattle.dst.specs.Head.{rate, frte, head, headOf};
+ghost use Rattle.dst.specs.Head.{rate, frte, head};
+ghost use Rattle.dst.specs.Sized.{headSized};
 use crate::unit::units;
 use crate::unit::with_frte;
 use chunk::Cursor;
@@ -27,8 +28,8 @@ fn frte(c: Cursor, out: &mut [u8], frames: u32) -> Cursor
 }
 
 // The header of the DST chunk, and FRTE, of so many frames whose units have so many bytes together.
-pub fn head_of(c: Cursor, out: &mut [u8], bytes: u64, frames: usize) -> Cursor
-    ensures { λ r. ⌜ Appended (now (out .entry)) (c .at) (headOf bytes frames) (now (out .exit)) (r .at) ⌝ }
+pub fn head_sized(c: Cursor, out: &mut [u8], bytes: u64, frames: usize) -> Cursor
+    ensures { λ r. ⌜ Appended (now (out .entry)) (c .at) (headSized bytes frames) (now (out .exit)) (r .at) ⌝ }
 {
     let c1 = c.chunk_head(out, *b"DST ", with_frte(bytes));
     frte(c1, out, (frames % 0x1_0000_0000) as u32)
@@ -38,5 +39,5 @@ pub fn head_of(c: Cursor, out: &mut [u8], bytes: u64, frames: usize) -> Cursor
 pub fn head(c: Cursor, out: &mut [u8], crc: bool, lengths: &[u32]) -> Cursor
     ensures { λ r. ⌜ Appended (now (out .entry)) (c .at) (head crc (now (lengths .entry))) (now (out .exit)) (r .at) ⌝ }
 {
-    head_of(c, out, units(crc, lengths), lengths.len())
+    head_sized(c, out, units(crc, lengths), lengths.len())
 }

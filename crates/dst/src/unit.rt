@@ -35,7 +35,7 @@ pub fn unit_size(crc: bool, length: u32) -> u64
     dstf
 }
 
-// The sound's length, of no more frames than add up to a u64: the loop has no test, and is compiled to take several lengths at a time.
+// The sound's length, of so few frames that the sum fits a u64: the loop has no test, and is compiled to take several lengths at a time.
 fn units_of_few(crc: bool, lengths: &[u32]) -> u64
     requires { ⌜ length (now lengths) ≤ 1_073_741_824 ⌝ }
     ensures { λ r. ⌜ r ≡ sum (sizes crc (now (lengths .entry))) ⌝ }

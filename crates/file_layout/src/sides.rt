@@ -1,7 +1,8 @@
 // FRM8's data up to the first sound byte, and what follows the sound.
 ghost use Rattle.chunk.specs.Append.{Appended};
 ghost use Rattle.file_tree.specs.Parts.{partsOf};
-ghost use Rattle.file_tree.specs.Sides.{givenNames, frontBefore, back};
+ghost use Rattle.file_tree.specs.Sides.{givenNames, back};
+ghost use Rattle.file_tree.specs.Sized.{frontSized};
 use build_options::area::Area;
 use build_options::options::Options;
 use chunk::Cursor;
@@ -14,7 +15,7 @@ const VERSION: [u8; 4] = [1, 5, 0, 0];
 
 // The form, FVER, the local chunks before the sound, and the sound chunk's head, where the sound has `size` bytes. The index's offsets are counted from
 // `base`, the place of the first sound byte.
-pub fn front_before(
+pub fn front_sized(
     c: Cursor,
     out: &mut [u8],
     size: u64,
@@ -33,7 +34,7 @@ pub fn front_before(
     lengths: &[u32],
 ) -> Cursor
     ensures { λ r. ⌜ Appended (now (out .entry)) (c .at)
-        (frontBefore (partsOf area options «property_order» «info_order» (now (pool .entry)) (now (raw .entry)) (now (tracks .entry)) (now (markers .entry)) (now (comments .entry)) (now (lengths .entry))) size base (givenNames «local_order» «local_count»))
+        (frontSized (partsOf area options «property_order» «info_order» (now (pool .entry)) (now (raw .entry)) (now (tracks .entry)) (now (markers .entry)) (now (comments .entry)) (now (lengths .entry))) size base (givenNames «local_order» «local_count»))
         (now (out .exit)) (r .at) ⌝ }
 {
     let version = VERSION;
@@ -58,7 +59,7 @@ pub fn front_before(
         lengths,
     );
     let sound = area.sound;
-    crate::sound::sound_head_of(c, out, sound, size, lengths.len())
+    crate::sound::sound_head_sized(c, out, sound, size, lengths.len())
 }
 
 // The local chunks behind the sound, and the caller's chunks.

@@ -4,7 +4,8 @@ ghost use Prim.Native.Nat.{_*_, _-_, _^_, min};
 ghost use Rattle.chunk.specs.Append.{Appended};
 ghost use Rattle.dst.specs.Frame.{frameBytes};
 ghost use Rattle.build_options.specs.Area.{areaPositions};
-ghost use Rattle.file_tree.specs.Sound.{soundSize, soundHeadOf};
+ghost use Rattle.file_tree.specs.Sound.{soundSize};
+ghost use Rattle.file_tree.specs.Sized.{soundHeadSized};
 use build_options::area::Area;
 use chunk::Cursor;
 use prop_fields::compression::Sound;
@@ -32,15 +33,15 @@ pub fn sound_size(area: Area, crc: bool, lengths: &[u32]) -> u64
 }
 
 // The sound chunk's name and size and, of DST, FRTE, of so many bytes of sound in so many frames.
-pub fn sound_head_of(c: Cursor, out: &mut [u8], sound: Sound, size: u64, frames: usize) -> Cursor
-    ensures { λ r. ⌜ Appended (now (out .entry)) (c .at) (soundHeadOf sound size frames) (now (out .exit)) (r .at) ⌝ }
+pub fn sound_head_sized(c: Cursor, out: &mut [u8], sound: Sound, size: u64, frames: usize) -> Cursor
+    ensures { λ r. ⌜ Appended (now (out .entry)) (c .at) (soundHeadSized sound size frames) (now (out .exit)) (r .at) ⌝ }
 {
     match sound {
         Sound::Dsd => {
             return c.chunk_head(out, *b"DSD ", size);
         }
         Sound::Dst => {
-            return dst::head::head_of(c, out, size, frames);
+            return dst::head::head_sized(c, out, size, frames);
         }
     }
 }

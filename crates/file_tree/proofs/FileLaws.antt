@@ -31,10 +31,11 @@ use Rattle.build_options.specs.Inputs.{Inputs}
 use Rattle.file_tree.specs.Parts.{Parts, parts, info, hasIndex, firstOffset, indexOf}
 use Rattle.file_tree.specs.Sound.{soundBytes, soundChunk, Fits, soundSize, soundHead}
 use Rattle.caller_chunks.specs.Caller.{callerChunk, callerChunks}
-use Rattle.file_tree.specs.Sides.{isSound, before, behind, localBytes, localsBytes, version, front, frontBefore, back}
+use Rattle.file_tree.specs.Sides.{isSound, before, behind, localBytes, localsBytes, version, front, back}
+use Rattle.file_tree.specs.Sized.{frontSized}
 use Rattle.file_tree.specs.File.{given, frontOf, backOf, place, soundLength, formSize, headerOf, trailerOf, localChunk, formChunks, fileOf}
 use Rattle.file_tree.proofs.SideLaws.{once}
-use Rattle.file_tree.proofs.SoundLaws.{length-soundBytes, sound-bytes, sound-head-of, length-sound-head}
+use Rattle.file_tree.proofs.SoundLaws.{length-soundBytes, sound-bytes, sound-head-sized, length-sound-head}
 
 -- EVERY CHUNK OCCUPIES AN EVEN NUMBER OF BYTES, so FRM8 has no pad
 abbrev Even : Chunks → Type 0
@@ -191,14 +192,14 @@ length-locals p a b (c ∷ cs) = rw (length-append, length-append, length-local 
 
 -- THE FRONT where the sound's size is known
 module _ (p : Parts) (n base : ℕ) (cs : List LocalChunk) where
-  pub front-before : areaPositions (p .area) * frameBytes (p .area .channels) < 2 ^ 64
-      → n ≡ min (soundSize (p .area .sound) (p .area) (p .options .«dst_crc») (p .lengths)) (2 ^ 64 - 1) → frontBefore p n base cs ≡ front p base cs
-  unfolding front frontBefore
-  front-before low e = rw (sound-head-of (p .area .sound) (p .area) (p .options .«dst_crc») (p .lengths) n low e)
+  pub front-sized : areaPositions (p .area) * frameBytes (p .area .channels) < 2 ^ 64
+      → n ≡ min (soundSize (p .area .sound) (p .area) (p .options .«dst_crc») (p .lengths)) (2 ^ 64 - 1) → frontSized p n base cs ≡ front p base cs
+  unfolding front frontSized
+  front-sized low e = rw (sound-head-sized (p .area .sound) (p .area) (p .options .«dst_crc») (p .lengths) n low e)
 
-  pub length-front-before : length (frontBefore p n base cs) ≡ length (front p base cs)
-  unfolding front frontBefore
-  length-front-before = simp (length-append, length-sound-head (p .area .sound) (p .area) (p .options .«dst_crc») (p .lengths) n)
+  pub length-front-sized : length (frontSized p n base cs) ≡ length (front p base cs)
+  unfolding front frontSized
+  length-front-sized = simp (length-append, length-sound-head (p .area .sound) (p .area) (p .options .«dst_crc») (p .lengths) n)
 
 pub length-front : (x : Inputs) (a b : ℕ) → length (frontOf x a) ≡ length (frontOf x b)
 unfolding front

@@ -11,25 +11,27 @@ use Rattle.chunk.proofs.NumberLaws.{length-be}
 use Rattle.tree.specs.Tree.{stop, bytes}
 use Rattle.tree.proofs.TreeLaws.{bytes-stop, bytes-leaf}
 use Rattle.dst.specs.Frame.{Frame, frameBytes, dsdSound}
-use Rattle.dst.specs.Head.{dataSize, head, headOf}
+use Rattle.dst.specs.Head.{dataSize, head}
+use Rattle.dst.specs.Sized.{headSized}
 use Rattle.dst.proofs.SaturateLaws.{moved-capped}
 use Rattle.dst.proofs.UnitLaws.{chunk-even, length-sound, dst-bytes}
 use Rattle.prop_fields.specs.declared.compression.Sound.{Sound}
 use Rattle.prop_fields.specs.declared.compression.Sound.the-variants.{Dsd, Dst}
 use Rattle.build_options.specs.declared.area.Area.{Area}
 use Rattle.build_options.specs.Area.{areaPositions}
-use Rattle.file_tree.specs.Sound.{soundBytes, soundChunk, Fits, soundSize, soundHead, soundHeadOf}
+use Rattle.file_tree.specs.Sound.{soundBytes, soundChunk, Fits, soundSize, soundHead}
+use Rattle.file_tree.specs.Sized.{soundHeadSized}
 
 -- of frames of these lengths
-pub sound-head-of : (s : Sound) (a : Area) (crc : Bool) (ls : List ℕ) (n : ℕ) → areaPositions a * frameBytes (a .channels) < 2 ^ 64
-    → n ≡ min (soundSize s a crc ls) (2 ^ 64 - 1) → soundHeadOf s n (length ls) ≡ soundHead s a crc ls
-unfolding soundHead soundHeadOf soundSize head headOf dataSize
-sound-head-of Dsd a crc ls n low e = let k : n ≡ areaPositions a * frameBytes (a .channels) = omega (arith, e, low) in rw k
-sound-head-of Dst a crc ls n low e = rw (e, moved-capped)
+pub sound-head-sized : (s : Sound) (a : Area) (crc : Bool) (ls : List ℕ) (n : ℕ) → areaPositions a * frameBytes (a .channels) < 2 ^ 64
+    → n ≡ min (soundSize s a crc ls) (2 ^ 64 - 1) → soundHeadSized s n (length ls) ≡ soundHead s a crc ls
+unfolding soundHead soundHeadSized soundSize head headSized dataSize
+sound-head-sized Dsd a crc ls n low e = let k : n ≡ areaPositions a * frameBytes (a .channels) = omega (arith, e, low) in rw k
+sound-head-sized Dst a crc ls n low e = rw (e, moved-capped)
 
 -- its length, whatever the size
-pub length-sound-head : (s : Sound) (a : Area) (crc : Bool) (ls : List ℕ) (n : ℕ) → length (soundHeadOf s n (length ls)) ≡ length (soundHead s a crc ls)
-unfolding soundHead soundHeadOf head headOf
+pub length-sound-head : (s : Sound) (a : Area) (crc : Bool) (ls : List ℕ) (n : ℕ) → length (soundHeadSized s n (length ls)) ≡ length (soundHead s a crc ls)
+unfolding soundHead soundHeadSized head headSized
 length-sound-head Dsd a crc ls n = simp (length-append, length-be)
 length-sound-head Dst a crc ls n = simp (length-append, length-be)
 

@@ -3,3 +3,4 @@ pub mod Sound
 pub mod Sides
 pub mod Steps
 pub mod File
+pub mod Sized

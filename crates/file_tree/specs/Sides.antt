@@ -3,7 +3,7 @@
 use mathlib.Core.Bool.{Bool, true, false, cond, not}
 use mathlib.Core.List.{List, [], _∷_, _++_, flatMap}
 use Prim.Native.Nat.{ℕ, min}
-use lib.ListN.{length, take}
+use lib.ListN.{take}
 use Rattle.chunk.specs.Number.{be}
 use Rattle.chunk_names.specs.Name.{ascii}
 use Rattle.chunk.specs.Chunk.{chunk}
@@ -15,7 +15,7 @@ use Rattle.dst_index.specs.Index.{dsti}
 use Rattle.prop.specs.Property.{property}
 use Rattle.master_info.specs.Diin.{diin}
 use Rattle.file_tree.specs.Parts.{Parts, properties, info, hasIndex, firstOffset}
-use Rattle.file_tree.specs.Sound.{soundHead, soundHeadOf}
+use Rattle.file_tree.specs.Sound.{soundHead}
 use Rattle.caller_chunks.specs.Caller.{callerChunks}
 
 abbrev pub isSound : LocalChunk → Bool
@@ -61,14 +61,6 @@ front p base cs =
     ++ chunk (ascii "FVER") version
     ++ localsBytes p base (before cs)
     ++ soundHead (p .area .sound) (p .area) (p .options .«dst_crc») (p .lengths)
-
--- the same, where the sound has so many bytes
-unfoldable pub frontBefore : Parts → ℕ → ℕ → List LocalChunk → List ℕ
-frontBefore p size base cs =
-    ascii "DSD "
-    ++ chunk (ascii "FVER") version
-    ++ localsBytes p base (before cs)
-    ++ soundHeadOf (p .area .sound) size (length (p .lengths))
 
 -- what follows the sound: the names behind it, and the caller's chunks
 unfoldable pub back : Parts → ℕ → List LocalChunk → List ℕ → List ℕ

@@ -11,7 +11,7 @@ use Rattle.tree.specs.Tree.{Chunks, stop, leaf}
 use Rattle.dst.specs.Frame.{Frame, frameBytes, dsdSound}
 use Rattle.dst.specs.Unit.{sound, lengths, sizes}
 use Rattle.dst.specs.Start.{sum}
-use Rattle.dst.specs.Head.{head, headOf, dst}
+use Rattle.dst.specs.Head.{head, dst}
 use Rattle.prop_fields.specs.declared.compression.Sound.{Sound}
 use Rattle.prop_fields.specs.declared.compression.Sound.the-variants.{Dsd, Dst}
 use Rattle.build_options.specs.declared.area.Area.{Area}
@@ -41,8 +41,3 @@ soundSize Dst a crc ls = sum (sizes crc ls)
 unfoldable pub soundHead : Sound → Area → Bool → List ℕ → List ℕ
 soundHead Dsd a crc ls = ascii "DSD " ++ be 8 (soundSize Dsd a crc ls)
 soundHead Dst a crc ls = head crc ls
-
--- the same, of so many bytes of sound in so many frames
-unfoldable pub soundHeadOf : Sound → ℕ → ℕ → List ℕ
-soundHeadOf Dsd size frames = ascii "DSD " ++ be 8 size
-soundHeadOf Dst size frames = headOf size frames

@@ -14,7 +14,7 @@ pub record BothWritten (x : Inputs) (size base : ℕ) (h h′ t t′ : List ℕ)
   pub header : h′ ≡ overlay h 0 (ascii "FRM8" ++ be 8 size ++ frontOf x base)
   pub trailer : t′ ≡ overlay t 0 (backOf x base)
 
--- .. and the answer, the sound's length at most the largest u64, where FRM8's data has `rest` bytes beside the sound
+-- .. and the answer, the sound's length, at most the largest u64, where FRM8's data has `rest` bytes beside the sound
 pub record FilledAround (x : Inputs) (rest base : ℕ) (h h′ t t′ : List ℕ) (r : ℕ) : Type 0 where
   pub sound : r ≡ min (soundLength x) (2 ^ 64 - 1)
   pub both : BothWritten x (moved rest r) base h h′ t t′

@@ -36,7 +36,7 @@ pub fn fill_around(
     let size = dst::unit::plus(rest, sound);
     let start = Cursor::new();
     let c = start.chunk_head(head, *b"FRM8", size);
-    file_layout::sides::front_before(
+    file_layout::sides::front_sized(
         c,
         head,
         sound,

@@ -34,7 +34,7 @@ pub fn measure(
 {
     let mut empty = [0u8; 0];
     let start = Cursor::new();
-    let front = file_layout::sides::front_before(
+    let front = file_layout::sides::front_sized(
         start,
         &mut empty,
         0,

@@ -12,15 +12,15 @@ use borrow.Author.Tests.{ltb-true, ltb-false, lt-ltb, le-ltb}
 use Rattle.refusal.specs.Below.{below, any}
 use Rattle.rows.specs.Lengths.{lengthWrong}
 
-or-ge : (a b : ℕ) → a ≤ bitOr a b
-or-ge a b = omega (arith, or-add-and a b, and-le-r a b)
+or-left : (a b : ℕ) → a ≤ bitOr a b
+or-left a b = omega (arith, or-add-and a b, and-le-r a b)
 
 pub joined : (a b : ℕ) → ltb 65_535 (bitOr a b) ≡ (ltb 65_535 a || ltb 65_535 b)
 joined a b = go (ltb 65_535 a) (ltb 65_535 b) refl refl
   where
     go : (t u : Bool) → ltb 65_535 a ≡ t → ltb 65_535 b ≡ u → ltb 65_535 (bitOr a b) ≡ (t || u)
-    go true u p q = lt-ltb 65_535 (bitOr a b) (lt-of-lt-of-le (ltb-true 65_535 a p) (or-ge a b))
-    go false true p q = lt-ltb 65_535 (bitOr a b) (lt-of-lt-of-le (ltb-true 65_535 b q) (rw or-comm (or-ge b a)))
+    go true u p q = lt-ltb 65_535 (bitOr a b) (lt-of-lt-of-le (ltb-true 65_535 a p) (or-left a b))
+    go false true p q = lt-ltb 65_535 (bitOr a b) (lt-of-lt-of-le (ltb-true 65_535 b q) (rw or-comm (or-left b a)))
     go false false p q =
         let ha : a < 2 ^ 16 = omega (arith, ltb-false 65_535 a p) in
         let hb : b < 2 ^ 16 = omega (arith, ltb-false 65_535 b q) in

@@ -10,11 +10,11 @@ fn one_less(x: u32) -> u32
     (((x as u64) + 4_294_967_295) % 4_294_967_296) as u32
 }
 
-// The number before each is 0 to 65,535 if it is right, and larger if not.
+// A length is right if the number before it is at most this.
 const LAST: u32 = 65_535;
 
 // Whether one of them is not 1 to 65,536. The numbers before them are joined bit by bit and tested once, so that the loop has no branch and is
-// done on many lengths at once; and it goes over two halves at a time, which is faster than one long run. The one in the middle is in both.
+// done on many lengths at once; and it goes over two halves at a time, which is faster than one long run. Of an odd number the middle one is in both.
 pub fn lengths_wrong(lengths: &[u32]) -> bool
     ensures { λ r. ⌜ r ≡ lengthsWrong (now (lengths .entry)) ⌝ }
 {

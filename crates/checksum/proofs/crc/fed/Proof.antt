@@ -1,11 +1,11 @@
 -- `crc::fed` meets its contract. Assumes nothing.
 use mathlib.Core.Path.{_≡_, refl, ap, ap₂, _∙_, sym}
-use Prim.Native.Nat.{ℕ, _+_, _-_, _%_, _≤_, _<_}
+use Prim.Native.Nat.{ℕ, _+_, _-_, _%_, _≤_}
 use native.Mathlib.Omega.{arith}
 use lib.ListN.{getD}
 use mathlib.Core.List.{List}
 use Rattle.checksum.specs.Crc.{byteOf}
-use Rattle.checksum.specs.Steps.{feed, afterUnits, ringOf}
+use Rattle.checksum.specs.Steps.{afterUnits, ringOf}
 use Rattle.checksum.proofs.RingLaws.{after-next, feed-byte}
 use Rattle.checksum.proofs.crc.fed.Statement.{statement}
 use Rattle.checksum.proofs.crc.fed.Tie as tie

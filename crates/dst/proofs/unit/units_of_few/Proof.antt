@@ -1,4 +1,4 @@
--- `unit::units_of_few` meets its contract. The invariant: the sum is where unit i starts, and is at most what i units can have, so that it fits.
+-- `unit::units_of_few` meets its contract. The invariant: the sum is where unit i starts, and is at most what i units can have (each the longest length, 2^32 − 1, and 29), so that it fits.
 -- Assumes nothing.
 use mathlib.Core.Path.{_≡_, sym, _∙_}
 use Prim.Native.Nat.{_*_, _-_, _≤_}
@@ -15,13 +15,13 @@ use Rattle.dst.proofs.unit.units_of_few.Tie as tie
 use denote.Ref.{now}
 
 abbrev Inv-loop : tie.InvT-loop
-Inv-loop crc lengths all₀ i₀ all i = (i ≤ length lengths) × (all ≤ i * 4294967324) × (all ≡ start (sizes crc lengths) i)
+Inv-loop crc lengths all₀ i₀ all i = (i ≤ length lengths) × (all ≤ i * 4_294_967_324) × (all ≡ start (sizes crc lengths) i)
 
 abbrev μ-loop : tie.MeasureT-loop
 μ-loop crc lengths all₀ i₀ all i = length lengths - i
 
 -- what a unit can have
-unit-fits : (c : tie.After-unit-size Inv-loop μ-loop) → c .unit-size .result ≤ 4294967324
+unit-fits : (c : tie.After-unit-size Inv-loop μ-loop) → c .unit-size .result ≤ 4_294_967_324
 unit-fits c =
     let turn = c .before .before .before in
     let s = turn .before .before in

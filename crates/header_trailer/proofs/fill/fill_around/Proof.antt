@@ -25,7 +25,7 @@ returns c =
     let size = new .before in
     let sound = size .before in
     let low = short (sound .before .before .before .before .before .before .before .before .before .before) in
-    filled _ _ _ low (sound .sound-size .ensures) (size .plus .ensures) (new .new .ensures) (head .chunk-head .ensures then front .front-before .ensures) (back .back .ensures)
+    filled _ _ _ low (sound .sound-size .ensures) (size .plus .ensures) (new .new .ensures) (head .chunk-head .ensures then front .front-sized .ensures) (back .back .ensures)
 
 pub fill-around-spec : {M : Type 1} → statement M
 fill-around-spec =

@@ -1,6 +1,6 @@
 -- `measure::measure` meets its contract. Assumes nothing.
 use borrow.Author.Needs.{needs}
-use Rattle.file_tree.proofs.FileLaws.{length-front-before}
+use Rattle.file_tree.proofs.FileLaws.{length-front-sized}
 use Rattle.header_trailer.proofs.measure.measure.Statement.{statement}
 use Rattle.header_trailer.proofs.measure.measure.Tie as tie
 
@@ -11,7 +11,7 @@ returns c =
     let start = new .before .before .before .before .before .before .before .before in
     record {
       orders = record { property = start .good .1 .1 .0 .1 .0 .1; info = start .good .1 .1 .1 .0 .1 .0 .1; local = start .good .1 .1 .1 .1 .0 .1 .0 .1 };
-      front = rw (new .new .ensures, length-front-before) at (front .front-before .ensures .place);
+      front = rw (new .new .ensures, length-front-sized) at (front .front-sized .ensures .place);
       back = rw (new .new .ensures) at (c .before .back .ensures .place);
     }
 
