@@ -30,9 +30,9 @@ while [ $# -gt 0 ]; do
 done
 
 prepare
-# With the crate `crc`, if Debian's package of it is there.
+# With the crate `crc`, if Debian's packages of it and of what it is built with are there.
 registry=/usr/share/cargo/registry
-if [ -d "$registry/crc-1.8.1" ]; then
+if [ -d "$registry/crc-1.8.1" ] && [ -d "$registry/build_const-0.2.1" ]; then
     program=bench-with-crc-crate
     build $program "$here/with_crc_crate" --config "source.crates-io.replace-with='debian'" \
         --config "source.debian.directory='$registry'"

@@ -8,6 +8,7 @@ fi
 status=0
 python3 tools/papers/promises.py || status=1
 python3 tools/papers/names.py || status=1
+python3 tools/papers/requires.py || status=1
 python3 tools/papers/wrong_programs.py --check || status=1
 python3 tools/papers/reading.py --check || status=1
 exit $status

@@ -9,7 +9,7 @@ use crate::random::Random;
 pub const CHANNELS: u8 = 2;
 /// Positions of a short area (10 seconds) and of a long one (66 minutes 40 seconds).
 pub const AREAS: [usize; 2] = [750, 300_000];
-pub const CONTENT_BYTES: usize = CHANNELS as usize * 4_704;
+const CONTENT_BYTES: usize = CHANNELS as usize * 4_704;
 
 /// Frames in memory: position k has the bytes of frame k % FRAMES.
 const FRAMES: usize = 64;

@@ -32,7 +32,7 @@ const CHANNEL: usize = 4_704;
 const CHANNELS: RangeInclusive<usize> = 1..=6;
 
 /// Lengths of which every bit is set by itself.
-const SINGLE_BITS: [usize; 3] = [320, 337, 777];
+const SINGLE_BITS: [usize; 4] = [167, 320, 337, 777];
 
 impl Subject for Crc {
     const NAME: &'static str = "crc";
@@ -167,7 +167,8 @@ fn draw_content(random: &mut Random, length: usize) -> Vec<u8> {
 // Counting
 
 /// The rows of lengths.
-const ROWS: [RangeInclusive<usize>; 6] = [0..=0, 1..=255, 256..=511, 512..=1_023, 1_024..=EACH, EACH + 1..=LONGEST];
+const ROWS: [RangeInclusive<usize>; 7] =
+    [0..=0, 1..=159, 160..=255, 256..=511, 512..=1_023, 1_024..=EACH, EACH + 1..=LONGEST];
 
 #[derive(Default)]
 pub struct Counts {

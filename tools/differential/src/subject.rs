@@ -196,7 +196,7 @@ fn shrink<S: Subject>(answers: &mut Answers, failure: Failure<S::Case>) -> Resul
         progress.tell(|| format!("a smaller case, {} tries", kept.len()));
         let lines = S::for_original(simpler);
         let answer = answers.ask("smallest", &lines).map_err(Halt::Error)?;
-        bytes += lines.len() + answer.bytes();
+        bytes += if S::ASKED { lines.len() + answer.bytes() } else { S::for_us(simpler).len() };
         if bytes > ENOUGH_BYTES {
             return Err(Halt::Enough);
         }
