@@ -14,7 +14,7 @@ use lib.ListN.{length, drop, getD, set, replicate, length-set, getD-replicate}
 use lib.Seq.{drop-cons, getD-set-same, getD-set-other}
 use lib.Bits.{bitXor}
 use Rattle.checksum.specs.Crc.{bit, bits, byteOf, bytesOf}
-use Rattle.checksum.specs.Steps.{feed, afterUnits, ringOf, Pushed}
+use Rattle.checksum.specs.Steps.{feed, afterUnits, unitsFrom, ringOf, Pushed}
 use Rattle.checksum.proofs.FoldLaws.{Folds, folds, leave-out, after-ext, after-none}
 
 -- ---- bytes
@@ -90,13 +90,13 @@ bits-zero (suc n) = bits-zero n
 pub ring-start : (n : ℕ) → ringOf n (replicate 32 0) 0 ≡ 0
 unfolding ringOf afterUnits
 ring-start n =
-    after-none n 32 0 0 (λ j. getD (replicate 32 0) ((0 + j) % 32) 0) (λ j _ _. getD-replicate 32 ((0 + j) % 32) 0 0 (mod-lt (0 + j) (lit< tt))) ∙ bits-zero (32 * (8 * n))
+    after-none n 32 0 0 (unitsFrom (replicate 32 0) 0) (λ j _ _. getD-replicate 32 ((0 + j) % 32) 0 0 (mod-lt (0 + j) (lit< tt))) ∙ bits-zero (32 * (8 * n))
 
 -- 64 units on: the same place
 pub ring-round : (n : ℕ) (a : List ℕ) → ringOf n a 64 ≡ ringOf n a 0
 unfolding ringOf
 ring-round n a =
-    after-ext n 32 0 (λ j. getD a ((64 + j) % 32) 0) (λ j. getD a ((0 + j) % 32) 0)
+    after-ext n 32 0 (unitsFrom a 64) (unitsFrom a 0)
     (λ j l. let e : (64 + j) % 32 ≡ (0 + j) % 32 = omega arith in ap (λ (k : ℕ). getD a k 0) e)
 
 -- two halves more are a unit more
@@ -185,7 +185,7 @@ module _ (a : List ℕ) (i m : ℕ) (size : length a ≡ 32) where
 
   -- at the place j of the ring, which is x of the list
   added : (j x : ℕ) → (i + 1 + j) % 32 ≡ x → getD a₃ x 0 ≡ bitXor (getD e x 0) q
-      → getD a₃ ((i + 1 + j) % 32) 0 ≡ bitXor (getD e ((i + 1 + j) % 32) 0) (getD a ((i + 0) % 32) 0)
+      → unitsFrom a₃ (i + 1) j ≡ bitXor (unitsFrom e (i + 1) j) (unitsFrom a i 0)
   added j x h t =
       ap (λ (y : ℕ). getD a₃ y 0) h ∙ t
       ∙ sym (ap₂ bitXor (ap (λ (y : ℕ). getD e y 0) h) (ap (λ (y : ℕ). getD a (y % 32) 0) (add-zero i)))
@@ -193,7 +193,7 @@ module _ (a : List ℕ) (i m : ℕ) (size : length a ≡ 32) where
   pub ring-step : Pushed a i m a₃
   unfolding ringOf
   ring-step k =
-      leave-out (2 ^ k) (λ r h. subst (λ (w : ℕ). Folds w r) (pow-eight k) (folds (k + 3) r h)) m (λ j. getD a ((i + j) % 32) 0) (λ j. getD e ((i + 1 + j) % 32) 0) (λ j. getD a₃ ((i + 1 + j) % 32) 0)
+      leave-out (2 ^ k) (λ r h. subst (λ (w : ℕ). Folds w r) (pow-eight k) (folds (k + 3) r h)) m (unitsFrom a i) (unitsFrom e (i + 1)) (unitsFrom a₃ (i + 1))
       (λ j l. let h : i + 1 + j ≡ i + suc j = omega arith in kept ((i + 1 + j) % 32) (λ z. omega arith) ∙ ap (λ (y : ℕ). getD a (y % 32) 0) h)
       (let h : (i + 1 + 31) % 32 ≡ o = omega arith in ap (λ (y : ℕ). getD e y 0) h ∙ kept-o)
       (added 0 p (omega arith) (at-p ∙ ap (λ (y : ℕ). bitXor y q) (sym (kept p p≢o))))

@@ -16,9 +16,13 @@ unfoldable pub afterUnits : ℕ → ℕ → (ℕ → ℕ) → ℕ → ℕ
 afterUnits n r f zero = r
 afterUnits n r f (suc k) = feed n (afterUnits n r f k) (f k)
 
--- the register after a ring of 32 units of n bytes, from the place i on
+-- the units of a ring of 32, from the place i on
+abbrev pub unitsFrom : List ℕ → ℕ → ℕ → ℕ
+unitsFrom a i j = getD a ((i + j) % 32) 0
+
+-- the register after them, where they have n bytes each
 unfoldable pub ringOf : ℕ → List ℕ → ℕ → ℕ
-ringOf n a i = afterUnits n 0 (λ j. getD a ((i + j) % 32) 0) 32
+ringOf n a i = afterUnits n 0 (unitsFrom a i) 32
 
 -- w stands for the next 8 bytes of s, from the place i on: it does to any register what they do
 abbrev pub Next : List ℕ → ℕ → ℕ → Type 0

@@ -1,5 +1,5 @@
 -- The DST chunk up to its first frame, where the units' bytes are known.
--- Only functions that a build calls inside promise this; no promise of a released function cites it. Assumes nothing.
+-- Only `head_sized`, which `head` and a build call inside, promises this; no promise of a released function cites it. Assumes nothing.
 use Prim.Native.Nat.{ℕ}
 use mathlib.Core.List.{List, _++_}
 use Rattle.chunk.specs.Append.{moved}

@@ -4,12 +4,13 @@
 use mathlib.Core.Path.{_≡_, refl, sym, ap, ap₂, _∙_}
 use mathlib.Core.Bool.{Bool, true, false, _||_}
 use Prim.Native.Nat.{ℕ, zero, suc, _+_, _%_, _^_, _≤_, _<_}
-use native.Mathlib.Nat.{lt-of-lt-of-le, add-zero, add-suc, add-comm}
+use native.Mathlib.Nat.{lt-of-lt-of-le, add-comm}
 use native.Mathlib.Omega.{arith}
 use lib.Dec.{ltb}
 use lib.Bits.{bitOr, or-lt, or-comm, or-add-and, and-le-r}
 use borrow.Author.Tests.{ltb-true, ltb-false, lt-ltb, le-ltb}
-use Rattle.refusal.specs.Below.{below, any}
+use Rattle.refusal.specs.Below.{any}
+use Rattle.refusal.proofs.BelowLaws.{below-cut}
 use Rattle.rows.specs.Lengths.{lengthWrong}
 
 or-left : (a b : ℕ) → a ≤ bitOr a b
@@ -39,19 +40,16 @@ before-wrong (suc x) h =
         let k = ltb-false 65_535 x p in
         p ∙ sym (ap₂ (λ (a b : Bool). a || b) (le-ltb (suc x) 1 (omega arith)) (le-ltb 65_536 (suc x) (omega arith)))
 
--- a run, cut
 any-cut : (f : ℕ → Bool) (m n : ℕ) → any f (m + n) ≡ (any f m || any (λ k. f (m + k)) n)
-unfolding below
-any-cut f m zero = rw add-zero (sym (none (any f m)))
-  where
-    none : (a : Bool) → (a || false) ≡ a
-    none true = refl
-    none false = refl
-any-cut f m (suc n) = rw add-suc (ap (λ (a : Bool). a || f (m + n)) (any-cut f m n) ∙ assoc (any f m) (any (λ k. f (m + k)) n) (f (m + n)))
+any-cut f = below-cut (λ a b. a || b) false f assoc none
   where
     assoc : (a b c : Bool) → ((a || b) || c) ≡ (a || (b || c))
     assoc true b c = refl
     assoc false b c = refl
+
+    none : (a : Bool) → (a || false) ≡ a
+    none true = refl
+    none false = refl
 
 -- two halves that meet or overlap
 pub halves : (f : ℕ → Bool) (m d : ℕ) → (any f (m + d) || any (λ k. f (m + k)) (m + d)) ≡ any f (m + (m + d))

@@ -3,19 +3,14 @@ use mathlib.Core.Path.{_≡_, refl, ap, ap₂, _∙_, sym}
 use Prim.Native.Nat.{ℕ, _+_, _-_, _%_, _≤_}
 use native.Mathlib.Omega.{arith}
 use lib.ListN.{getD}
-use mathlib.Core.List.{List}
 use Rattle.checksum.specs.Crc.{byteOf}
-use Rattle.checksum.specs.Steps.{afterUnits, ringOf}
+use Rattle.checksum.specs.Steps.{afterUnits, unitsFrom, ringOf}
 use Rattle.checksum.proofs.RingLaws.{after-next, feed-byte}
 use Rattle.checksum.proofs.crc.fed.Statement.{statement}
 use Rattle.checksum.proofs.crc.fed.Tie as tie
 
--- the bytes of the ring
-abbrev bytes-of : List ℕ → ℕ → ℕ
-bytes-of a k = getD a ((0 + k) % 32) 0
-
 abbrev Inv-loop : tie.InvT-loop
-Inv-loop table bytes s₀ j₀ s j = (j ≤ 32) × (s ≡ afterUnits 1 0 (bytes-of bytes) j)
+Inv-loop table bytes s₀ j₀ s j = (j ≤ 32) × (s ≡ afterUnits 1 0 (unitsFrom bytes 0) j)
 
 abbrev μ-loop : tie.MeasureT-loop
 μ-loop table bytes s₀ j₀ s j = 32 - j
@@ -30,7 +25,7 @@ next-requires c κs = c .before .before .before .pre
 loop-again : tie.Need-loop-again Inv-loop μ-loop
 loop-again c =
     let l = c .before .before .before .loop in
-    let f = bytes-of (c .before .before .before .before .args .bytes .now) in
+    let f = unitsFrom (c .before .before .before .before .args .bytes .now) 0 in
     let h : (0 + l .j) % 32 ≡ l .j = omega arith in (
       omega arith,
       c .next .ensures
@@ -44,7 +39,7 @@ unfolding ringOf
 returns c =
     let l = c .before .loop in
     let h : l .j ≡ 32 = omega arith in
-    l .inv .1 ∙ ap (afterUnits 1 0 (bytes-of (c .before .before .args .bytes .now))) h
+    l .inv .1 ∙ ap (afterUnits 1 0 (unitsFrom (c .before .before .args .bytes .now) 0)) h
 
 pub fed-spec : {M : Type 1} → statement M
 fed-spec =

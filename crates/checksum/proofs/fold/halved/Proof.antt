@@ -1,21 +1,16 @@
 -- `fold::halved` meets its contract. The invariant: the ring, whatever its halves have of bytes, is the first j units. Assumes nothing.
 use mathlib.Core.Path.{_≡_, refl, sym, ap, _∙_}
-use mathlib.Core.List.{List}
 use Prim.Native.Nat.{ℕ, suc, _+_, _*_, _-_, _%_, _^_, _≤_}
 use native.Mathlib.Omega.{arith}
 use lib.ListN.{length, getD}
-use Rattle.checksum.specs.Steps.{feed, afterUnits, ringOf}
+use Rattle.checksum.specs.Steps.{feed, afterUnits, unitsFrom, ringOf}
 use Rattle.checksum.proofs.RingLaws.{ring-start, ring-round, halves-next, after-next}
 use Rattle.checksum.proofs.fold.halved.Statement.{statement}
 use Rattle.checksum.proofs.fold.halved.Tie as tie
 
--- the units of a ring from place n on
-abbrev units-of : List ℕ → ℕ → ℕ → ℕ
-units-of a n j = getD a ((n + j) % 32) 0
-
 abbrev Inv-loop : tie.InvT-loop
 Inv-loop units n half ring₀ j₀ ring j =
-    (j ≤ 32) × (length ring ≡ 32) × ((k : ℕ) → half ≡ 2 ^ (8 * 2 ^ k) → ringOf (2 ^ k) ring (j * 2) ≡ afterUnits (2 ^ suc k) 0 (units-of units n) j)
+    (j ≤ 32) × (length ring ≡ 32) × ((k : ℕ) → half ≡ 2 ^ (8 * 2 ^ k) → ringOf (2 ^ k) ring (j * 2) ≡ afterUnits (2 ^ suc k) 0 (unitsFrom units n) j)
 
 abbrev μ-loop : tie.MeasureT-loop
 μ-loop units n half ring₀ j₀ ring j = 32 - j
@@ -34,7 +29,7 @@ loop-again : tie.Need-loop-again Inv-loop μ-loop
 loop-again c =
     let l = c .before .before .before .before .before .before .loop in
     let g = c .before .before .before .before .before .before .before .args in
-    let f = units-of (g .units .now) (g .n) in
+    let f = unitsFrom (g .units .now) (g .n) in
     let h : (l .j + 1) * 2 ≡ l .j * 2 + 1 + 1 = omega arith in (
       omega arith,
       c .push-unit2 .ensures .0,
@@ -53,7 +48,7 @@ returns c =
     let h : l .j ≡ 32 = omega arith in
     λ k e.
     sym (ring-round (2 ^ k) (l .ring)) ∙ ap (λ (j : ℕ). ringOf (2 ^ k) (l .ring) (j * 2)) (sym h) ∙ l .inv .2 k e
-    ∙ ap (afterUnits (2 ^ suc k) 0 (units-of (g .units .now) (g .n))) h
+    ∙ ap (afterUnits (2 ^ suc k) 0 (unitsFrom (g .units .now) (g .n))) h
 
 pub halved-spec : {M : Type 1} → statement M
 halved-spec =
