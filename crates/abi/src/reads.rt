@@ -41,7 +41,8 @@ pub extern "C" fn jangqeruz_query(
     a.number() as u64
 }
 
-// The file's bytes from its byte `offset` on, into `out`. `filled` gets how many, or the refusal's detail.
+// The file's bytes from its byte `offset` on, into `out`. `filled` gets how many, or the refusal's detail. Of the positions that the query answers are lent: the lengths of their DST
+// frames (`lent`) and these joined (`frames`), none for DSD; and their plain contents joined (`contents`), for DSD and for DST with CRCs.
 #[no_mangle]
 pub extern "C" fn jangqeruz_read(
     out: &mut [u8],

@@ -1,4 +1,4 @@
-// The verdict on the inputs of a build. The single values are words, each at its own place, as Inputs.antt of the crate words lists them. What is wrong with the words themselves is
+// The verdict on the inputs of a build. The single values are words, each at its own place, as Inputs.antt of the crate words and the names of the header (WORD_..) list them. What is wrong with the words themselves is
 // refused first (Border.antt there): their number, a word that its field cannot hold, a number that names nothing. A switch is on if its word is not 0.
 ghost use mathlib.Core.Path.{_≡_};
 ghost use Rattle.checks.specs.InputVerdict.{verdict};

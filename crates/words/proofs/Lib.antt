@@ -1,1 +1,2 @@
 pub mod BorderLaws
+pub mod DefaultLaws

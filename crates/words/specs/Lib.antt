@@ -1,3 +1,4 @@
 pub mod Inputs
 pub mod Border
 pub mod Exact
+pub mod Defaults
