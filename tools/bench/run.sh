@@ -11,7 +11,7 @@ usage() {
 
 here=$(cd "$(dirname "$0")" && pwd)
 root=$(cd "$here/../.." && pwd)
-. "$root/tools/library/prepare.sh"
+. "$root/host/library/prepare.sh"
 request=$root/../shared
 library=
 only=

@@ -21,7 +21,7 @@ END
 
 here=$(cd "$(dirname "$0")" && pwd)
 root=$(cd "$here/../.." && pwd)
-. "$root/tools/library/prepare.sh"
+. "$root/host/library/prepare.sh"
 seed=20240611
 count=
 subject=

@@ -12,7 +12,7 @@ usage() {
 
 here=$(cd "$(dirname "$0")" && pwd)
 root=$(cd "$here/../.." && pwd)
-. "$root/tools/library/prepare.sh"
+. "$root/host/library/prepare.sh"
 library=
 out=$root/target/readers/files
 keep=no

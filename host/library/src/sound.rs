@@ -3,8 +3,10 @@
 
 use std::ops::Range;
 
-/// What a read of DST sound is lent, for the positions that it needs: their lengths, their DST bytes joined and, if there
-/// are CRCs, their contents joined.
+use crate::exports;
+
+/// What a read of DST sound is lent, for the positions that it needs: their lengths, their DST bytes joined and, if
+/// there are CRCs, their contents joined.
 #[derive(Clone, Copy)]
 pub struct Lent<'a> {
     pub lengths: &'a [u32],
@@ -12,84 +14,23 @@ pub struct Lent<'a> {
     pub contents: &'a [u8],
 }
 
-mod library {
-    unsafe extern "C" {
-        pub fn jangqeruz_crc(content: *const u8, content_len: usize) -> u32;
-
-        pub fn jangqeruz_dst_head(
-            out: *mut u8,
-            out_len: usize,
-            crc: bool,
-            lengths: *const u32,
-            lengths_len: usize,
-        ) -> usize;
-
-        pub fn jangqeruz_dst_index(
-            out: *mut u8,
-            out_len: usize,
-            crc: bool,
-            frame_data: bool,
-            base: u64,
-            lengths: *const u32,
-            lengths_len: usize,
-        ) -> usize;
-
-        pub fn jangqeruz_dst_positions(
-            range: *mut [usize; 2],
-            crc: bool,
-            lengths: *const u32,
-            lengths_len: usize,
-            from: u64,
-            count: u64,
-        );
-
-        pub fn jangqeruz_dsd_positions(range: *mut [usize; 2], channels: u8, n: u32, from: u64, count: u64);
-
-        pub fn jangqeruz_dst_fill(
-            out: *mut u8,
-            out_len: usize,
-            skip: u64,
-            crc: bool,
-            channels: u8,
-            lengths: *const u32,
-            lengths_len: usize,
-            lent: *const u32,
-            lent_len: usize,
-            frames: *const u8,
-            frames_len: usize,
-            contents: *const u8,
-            contents_len: usize,
-        ) -> usize;
-
-        pub fn jangqeruz_dsd_fill(
-            out: *mut u8,
-            out_len: usize,
-            skip: u64,
-            channels: u8,
-            n: u32,
-            contents: *const u8,
-            contents_len: usize,
-        ) -> usize;
-    }
-}
-
 /// The CRC of a position's content.
 pub fn crc(content: &[u8]) -> u32 {
     // SAFETY: the pointer and length are of one live slice, and the library keeps neither.
-    unsafe { library::jangqeruz_crc(content.as_ptr(), content.len()) }
+    unsafe { exports::jangqeruz_crc(content.as_ptr(), content.len()) }
 }
 
 /// The DST chunk's header and FRTE.
 pub fn dst_head(out: &mut [u8], crc: bool, lengths: &[u32]) -> usize {
     // SAFETY: each pointer and length is of one live slice; the library writes to `out` only and keeps none of them.
-    unsafe { library::jangqeruz_dst_head(out.as_mut_ptr(), out.len(), crc, lengths.as_ptr(), lengths.len()) }
+    unsafe { exports::jangqeruz_dst_head(out.as_mut_ptr(), out.len(), crc, lengths.as_ptr(), lengths.len()) }
 }
 
 /// The data of DSTI, where the first unit starts at `base` of the file.
 pub fn dst_index(out: &mut [u8], crc: bool, frame_data: bool, base: u64, lengths: &[u32]) -> usize {
     // SAFETY: as in `dst_head`.
     unsafe {
-        library::jangqeruz_dst_index(
+        exports::jangqeruz_dst_index(
             out.as_mut_ptr(),
             out.len(),
             crc,
@@ -108,7 +49,7 @@ const NO_RANGE: [usize; 2] = [usize::MAX, 0];
 pub fn dst_positions(crc: bool, lengths: &[u32], from: u64, count: u64) -> Range<usize> {
     let mut range = NO_RANGE;
     // SAFETY: as in `dst_head`, but that the library writes to `range` only.
-    unsafe { library::jangqeruz_dst_positions(&mut range, crc, lengths.as_ptr(), lengths.len(), from, count) };
+    unsafe { exports::jangqeruz_dst_positions(&mut range, crc, lengths.as_ptr(), lengths.len(), from, count) };
     range[0]..range[1]
 }
 
@@ -116,7 +57,7 @@ pub fn dst_positions(crc: bool, lengths: &[u32], from: u64, count: u64) -> Range
 pub fn dsd_positions(channels: u8, n: u32, from: u64, count: u64) -> Range<usize> {
     let mut range = NO_RANGE;
     // SAFETY: as in `dst_positions`.
-    unsafe { library::jangqeruz_dsd_positions(&mut range, channels, n, from, count) };
+    unsafe { exports::jangqeruz_dsd_positions(&mut range, channels, n, from, count) };
     range[0]..range[1]
 }
 
@@ -125,7 +66,7 @@ pub fn dsd_positions(channels: u8, n: u32, from: u64, count: u64) -> Range<usize
 pub fn dst_fill(out: &mut [u8], skip: u64, crc: bool, channels: u8, lengths: &[u32], lent: Lent<'_>) -> usize {
     // SAFETY: as in `dst_head`.
     unsafe {
-        library::jangqeruz_dst_fill(
+        exports::jangqeruz_dst_fill(
             out.as_mut_ptr(),
             out.len(),
             skip,
@@ -147,6 +88,6 @@ pub fn dst_fill(out: &mut [u8], skip: u64, crc: bool, channels: u8, lengths: &[u
 pub fn dsd_fill(out: &mut [u8], skip: u64, channels: u8, n: u32, contents: &[u8]) -> usize {
     // SAFETY: as in `dst_head`.
     unsafe {
-        library::jangqeruz_dsd_fill(out.as_mut_ptr(), out.len(), skip, channels, n, contents.as_ptr(), contents.len())
+        exports::jangqeruz_dsd_fill(out.as_mut_ptr(), out.len(), skip, channels, n, contents.as_ptr(), contents.len())
     }
 }

@@ -1,6 +1,8 @@
-//! PROP and DIIN. A function answers how many bytes the whole has. What does not fit in `out` is dropped; bytes past the
-//! whole stay.
+//! PROP and DIIN. A function answers how many bytes the whole has. What does not fit in `out` is dropped; bytes past
+//! the whole stay.
 
+use crate::exports;
+use crate::names;
 use crate::text::{Conversion, Switches};
 
 /// Where a file starts, if that is given.
@@ -18,11 +20,11 @@ pub struct ChannelNumbers {
     pub numbers: [u16; 6],
 }
 
-pub const STEREO: u8 = 0;
-pub const THREE_TWO: u8 = 1;
-pub const FIVE_POINT_ONE: u8 = 2;
+pub const STEREO: u8 = names::LAYOUT_STEREO as u8;
+pub const THREE_TWO: u8 = names::LAYOUT_THREE_TWO as u8;
+pub const FIVE_POINT_ONE: u8 = names::LAYOUT_FIVE_POINT_ONE as u8;
 /// And all above.
-pub const UNSPECIFIED: u8 = 3;
+pub const UNSPECIFIED: u8 = names::LAYOUT_UNSPECIFIED as u8;
 
 /// What PROP tells.
 #[derive(Clone, Copy, Debug, Default, PartialEq)]
@@ -48,16 +50,16 @@ pub type Track = [u32; 4];
 /// A marker: frame, kind and flags in one, start and length of its text in the byte pool.
 pub type Marker = [u32; 4];
 
-pub const TRACK_START: u32 = 0;
-pub const TRACK_STOP: u32 = 1;
-pub const PROGRAM_START: u32 = 2;
+pub const TRACK_START: u32 = names::MARKER_KIND_TRACK_START;
+pub const TRACK_STOP: u32 = names::MARKER_KIND_TRACK_STOP;
+pub const PROGRAM_START: u32 = names::MARKER_KIND_PROGRAM_START;
 /// And all but the other three.
-pub const INDEX: u32 = 4;
+pub const INDEX: u32 = names::MARKER_KIND_INDEX;
 
-pub const OF_ALBUM: u8 = 0;
-pub const OF_TRACK: u8 = 1;
+pub const OF_ALBUM: u8 = names::ARTIST_TITLE_SOURCE_ALBUM as u8;
+pub const OF_TRACK: u8 = names::ARTIST_TITLE_SOURCE_TRACK as u8;
 /// And all above.
-pub const OF_TRACK_THEN_ALBUM: u8 = 2;
+pub const OF_TRACK_THEN_ALBUM: u8 = names::ARTIST_TITLE_SOURCE_TRACK_THEN_ALBUM as u8;
 
 /// What DIIN tells.
 #[derive(Clone, Copy, Debug, Default, PartialEq)]
@@ -97,71 +99,13 @@ pub struct Lent<'a> {
     pub custom: &'a [Marker],
 }
 
-mod library {
-    unsafe extern "C" {
-        pub fn jangqeruz_property(
-            out: *mut u8,
-            out_len: usize,
-            order: *const [u8; 5],
-            dst: bool,
-            layout: u8,
-            channels: u8,
-            numbers_given: bool,
-            numbers_count: u32,
-            numbers: *const [u16; 6],
-            start_given: bool,
-            start_frame: u32,
-            loudspeaker_configuration: bool,
-            unspecified_loudspeaker_configuration: bool,
-            d1: bool,
-        ) -> usize;
-
-        pub fn jangqeruz_diin(
-            out: *mut u8,
-            out_len: usize,
-            pool: *const u32,
-            pool_len: usize,
-            raw: *const u8,
-            raw_len: usize,
-            tracks: *const u32,
-            tracks_len: usize,
-            custom: *const u32,
-            custom_len: usize,
-            order: *const [u8; 4],
-            on: bool,
-            empty_info: bool,
-            emid: *const [u32; 3],
-            custom_markers: bool,
-            first: u32,
-            end: u32,
-            playtime: u32,
-            source_track: u8,
-            source_track_markers: bool,
-            clipped_program: bool,
-            titles: bool,
-            start_given: bool,
-            start_frame: u32,
-            rule: u8,
-            replacement: u8,
-            empty_text: bool,
-            text_pad_counted: bool,
-            artist_title: bool,
-            artist_title_source: u8,
-            album_artist: *const [u32; 3],
-            album_title: *const [u32; 3],
-            track_artist: *const [u32; 3],
-            track_title: *const [u32; 3],
-        ) -> usize;
-    }
-}
-
 /// The chunk PROP.
 pub fn property(out: &mut [u8], properties: &Properties) -> usize {
     let Properties { order, dst, layout, channels, numbers, start, .. } = properties;
-    // SAFETY: each pointer is of a live array, or with its length of one live slice; the library writes to `out` only and
-    // keeps none of them.
+    // SAFETY: each pointer is of a live array, or with its length of one live slice; the library writes to `out` only
+    // and keeps none of them.
     unsafe {
-        library::jangqeruz_property(
+        exports::jangqeruz_property(
             out.as_mut_ptr(),
             out.len(),
             order,
@@ -185,7 +129,7 @@ pub fn diin(out: &mut [u8], lent: Lent<'_>, info: &Info) -> usize {
     let (tracks, custom) = (lent.tracks.as_flattened(), lent.custom.as_flattened());
     // SAFETY: as in `property`.
     unsafe {
-        library::jangqeruz_diin(
+        exports::jangqeruz_diin(
             out.as_mut_ptr(),
             out.len(),
             lent.pool.as_ptr(),

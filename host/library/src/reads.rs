@@ -1,5 +1,6 @@
 //! A whole file, header, sound and trailer joined: the positions that a read needs, and the read.
 
+use crate::exports;
 use crate::sound::Lent;
 
 // The refusals: what is told of the file is not a file's, and what is lent is not of the positions needed.
@@ -17,58 +18,17 @@ pub struct Format<'a> {
     pub lengths: &'a [u32],
 }
 
-mod library {
-    unsafe extern "C" {
-        pub fn jangqeruz_query(
-            range: *mut [u64; 2],
-            dst: bool,
-            crc: bool,
-            channels: u8,
-            positions: u32,
-            lengths: *const u32,
-            lengths_len: usize,
-            header: u64,
-            trailer: u64,
-            offset: u64,
-            room: u64,
-        ) -> u64;
-
-        pub fn jangqeruz_read(
-            out: *mut u8,
-            out_len: usize,
-            filled: *mut [u64; 1],
-            dst: bool,
-            crc: bool,
-            channels: u8,
-            positions: u32,
-            lengths: *const u32,
-            lengths_len: usize,
-            header: *const u8,
-            header_len: usize,
-            trailer: *const u8,
-            trailer_len: usize,
-            offset: u64,
-            lent: *const u32,
-            lent_len: usize,
-            frames: *const u8,
-            frames_len: usize,
-            contents: *const u8,
-            contents_len: usize,
-        ) -> u64;
-    }
-}
-
 /// What the numbers of an answer hold before a call.
 const BEFORE: u64 = 0xE1E2_E3E4_E5E6_E7E8;
 
-/// The refusal's number, 0 for none; and first and end of the positions that a read of `room` bytes from `offset` on needs,
-/// or the refusal's detail and 0.
+/// The refusal's number, 0 for none; and first and end of the positions that a read of `room` bytes from `offset` on
+/// needs, or the refusal's detail and 0.
 pub fn query(format: Format<'_>, header: u64, trailer: u64, offset: u64, room: u64) -> (u64, [u64; 2]) {
     let Format { dst, crc, channels, positions, lengths } = format;
     let mut range = [BEFORE; 2];
     // SAFETY: the pointer and length are of one live slice; the library writes to `range` only and keeps neither.
     let number = unsafe {
-        library::jangqeruz_query(
+        exports::jangqeruz_query(
             &mut range,
             dst,
             crc,
@@ -97,10 +57,10 @@ pub fn read(
 ) -> (u64, u64) {
     let Format { dst, crc, channels, positions, lengths } = format;
     let mut filled = [BEFORE];
-    // SAFETY: each pointer and length is of one live slice; the library writes to `out` and `filled` only, which are apart,
-    // and keeps none of them.
+    // SAFETY: each pointer and length is of one live slice; the library writes to `out` and `filled` only, which are
+    // apart, and keeps none of them.
     let number = unsafe {
-        library::jangqeruz_read(
+        exports::jangqeruz_read(
             out.as_mut_ptr(),
             out.len(),
             &mut filled,

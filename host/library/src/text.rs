@@ -1,5 +1,7 @@
-//! Texts, and the chunks that are made of them. A function answers how many bytes the whole has. What does not fit in `out`
-//! is dropped; bytes past the whole stay.
+//! Texts, and the chunks that are made of them. A function answers how many bytes the whole has. What does not fit in
+//! `out` is dropped; bytes past the whole stay.
+
+use crate::exports;
 
 /// A stretch of a pool of text.
 #[derive(Clone, Copy, Debug, Default, PartialEq)]
@@ -29,54 +31,11 @@ pub struct Switches {
 /// A comment: year, month, day, hour, minutes, kind, reference, start and length of its text.
 pub type Row = [u32; 9];
 
-mod library {
-    unsafe extern "C" {
-        pub fn jangqeruz_text_bytes(
-            out: *mut u8,
-            out_len: usize,
-            pool: *const u32,
-            pool_len: usize,
-            start: u32,
-            length: u32,
-            rule: u8,
-            replacement: u8,
-        ) -> usize;
-
-        pub fn jangqeruz_diin_text(
-            out: *mut u8,
-            out_len: usize,
-            id: *const [u8; 4],
-            pool: *const u32,
-            pool_len: usize,
-            given: bool,
-            start: u32,
-            length: u32,
-            rule: u8,
-            replacement: u8,
-            empty_text: bool,
-            text_pad_counted: bool,
-        ) -> usize;
-
-        pub fn jangqeruz_comt(
-            out: *mut u8,
-            out_len: usize,
-            pool: *const u32,
-            pool_len: usize,
-            rows: *const u32,
-            rows_len: usize,
-            rule: u8,
-            replacement: u8,
-            empty_text: bool,
-            text_pad_counted: bool,
-        ) -> usize;
-    }
-}
-
 /// The text bytes of a text of the pool.
 pub fn text_bytes(out: &mut [u8], pool: &[u32], text: Extent, conversion: Conversion) -> usize {
     // SAFETY: each pointer and length is of one live slice; the library writes to `out` only and keeps none of them.
     unsafe {
-        library::jangqeruz_text_bytes(
+        exports::jangqeruz_text_bytes(
             out.as_mut_ptr(),
             out.len(),
             pool.as_ptr(),
@@ -101,7 +60,7 @@ pub fn diin_text(
 ) -> usize {
     // SAFETY: as in `text_bytes`.
     unsafe {
-        library::jangqeruz_diin_text(
+        exports::jangqeruz_diin_text(
             out.as_mut_ptr(),
             out.len(),
             id,
@@ -123,7 +82,7 @@ pub fn comt(out: &mut [u8], pool: &[u32], rows: &[Row], conversion: Conversion, 
     let rows = rows.as_flattened();
     // SAFETY: as in `text_bytes`.
     unsafe {
-        library::jangqeruz_comt(
+        exports::jangqeruz_comt(
             out.as_mut_ptr(),
             out.len(),
             pool.as_ptr(),

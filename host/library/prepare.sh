@@ -1,5 +1,6 @@
-# For the run.sh of the tools beside: `prepare` has the original built in target/oracle and does what `prepare_library` does: it has the library
-# in target/staticlib, and sets JANGQERUZ_LIBRARY for cargo. Wanted are `root` and `library` (empty: build it), of `prepare` also `request`.
+# For the run.sh of the programs in tools: `prepare` has the original built in target/oracle and does what
+# `prepare_library` does: it has the library in target/staticlib, and sets JANGQERUZ_LIBRARY for cargo. Wanted are
+# `root` and `library` (empty: build it), of `prepare` also `request`.
 
 failed() {
     echo "run.sh: $1" >&2
@@ -24,11 +25,13 @@ prepare_library() {
     export JANGQERUZ_LIBRARY
 }
 
-# build NAME [FOLDER [OPTION]..]: the program of the folder, by default of `here`, in target/NAME; cargo gets the options
+# build NAME [FOLDER [OPTION]..]: the program of the folder, by default of `here`, in target/NAME; cargo gets the
+# options
 build() {
     name=$1
     manifest=${2:-$here}/Cargo.toml
     shift $(($# < 2 ? 1 : 2))
-    CARGO_TARGET_DIR=$root/target/$name cargo build --quiet --release --offline --locked --manifest-path "$manifest" "$@" >&2 ||
+    CARGO_TARGET_DIR=$root/target/$name \
+        cargo build --quiet --release --offline --locked --manifest-path "$manifest" "$@" >&2 ||
         failed "the program could not be built"
 }

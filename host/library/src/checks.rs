@@ -1,6 +1,10 @@
 //! The verdict on the inputs of a build: the first refusal, or that they are accepted.
 
+use crate::exports;
 use crate::markers::{Info, Properties};
+use crate::names;
+
+pub use crate::names::{SWITCHES, WORDS};
 
 /// A comment, as COMT takes it.
 pub use crate::text::Row as Comment;
@@ -9,19 +13,20 @@ pub use crate::text::Row as Comment;
 pub type Caller = [u32; 3];
 
 // The chunks of a file in an order of them.
-pub const PROP: u8 = 0;
-pub const SOUND: u8 = 1;
-pub const DSTI: u8 = 2;
-pub const DIIN: u8 = 3;
-pub const COMT: u8 = 4;
+pub const PROP: u8 = names::LOCAL_PROP as u8;
+pub const SOUND: u8 = names::LOCAL_SOUND as u8;
+pub const DSTI: u8 = names::LOCAL_DSTI as u8;
+pub const DIIN: u8 = names::LOCAL_DIIN as u8;
+pub const COMT: u8 = names::LOCAL_COMT as u8;
 
 // A switch that may be left alone.
-pub const UNSET: u8 = 0;
-pub const ON: u8 = 1;
-pub const OFF: u8 = 2;
+pub const UNSET: u8 = names::ARTIST_TITLE_UNSET as u8;
+pub const ON: u8 = names::ARTIST_TITLE_ON as u8;
+pub const OFF: u8 = names::ARTIST_TITLE_OFF as u8;
 
-/// The single values of a build. Rule, replacement and artist's and title's switch of `info` are not read. A number that
-/// names nothing is refused, in `properties` and `info` too, where functions of one chunk take it for the last name.
+/// The single values of a build. Rule, replacement and artist's and title's switch of `info` are not read. A number
+/// that names nothing is refused, in `properties` and `info` too, where functions of one chunk take it for the last
+/// name.
 #[derive(Clone, Copy, Debug, Default)]
 pub struct Build {
     pub properties: Properties,
@@ -38,13 +43,6 @@ pub struct Build {
     /// More than five is a repeat.
     pub local_count: u32,
 }
-
-/// How many words a build has. Fewer or more are refused.
-pub const WORDS: usize = 67;
-
-/// Words of switches: on if not 0.
-pub const SWITCHES: [usize; 25] =
-    [0, 6, 14, 15, 16, 18, 19, 20, 22, 23, 24, 27, 28, 29, 30, 31, 34, 37, 40, 43, 46, 48, 49, 50, 51];
 
 impl Build {
     /// The words in the order of the border.
@@ -92,33 +90,19 @@ pub struct Verdict {
     pub detail: u32,
 }
 
-mod library {
-    unsafe extern "C" {
-        pub fn jangqeruz_verdict(
-            words: *const u32,
-            words_len: usize,
-            pool: *const u32,
-            pool_len: usize,
-            raw: *const u8,
-            raw_len: usize,
-            tracks: *const u32,
-            tracks_len: usize,
-            markers: *const u32,
-            markers_len: usize,
-            comments: *const u32,
-            comments_len: usize,
-            callers: *const u32,
-            callers_len: usize,
-            lengths: *const u32,
-            lengths_len: usize,
-        ) -> u64;
-    }
+/// The words of the default options; those of the area are 0.
+pub fn default_words() -> [u32; WORDS] {
+    let mut words = [0; WORDS];
+    // SAFETY: the pointer and length are of one live array; the library writes to nothing else and keeps neither. The
+    // answer, how many words there are, is known.
+    unsafe { exports::jangqeruz_defaults(words.as_mut_ptr(), words.len()) };
+    words
 }
 
 pub fn verdict(words: &[u32], lent: Lent<'_>) -> Verdict {
     // SAFETY: each pointer and length is of one live slice; the library writes nothing and keeps none of them.
     let answer = unsafe {
-        library::jangqeruz_verdict(
+        exports::jangqeruz_verdict(
             words.as_ptr(),
             words.len(),
             lent.pool.as_ptr(),

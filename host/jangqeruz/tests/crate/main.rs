@@ -1,0 +1,12 @@
+//! Tests of the crate over the compiled library.
+
+mod draw;
+mod draws;
+mod figures;
+mod index;
+mod random;
+mod reads;
+mod recording;
+mod refused;
+mod sources;
+mod table;
