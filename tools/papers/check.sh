@@ -11,4 +11,7 @@ python3 tools/papers/names.py || status=1
 python3 tools/papers/requires.py || status=1
 python3 tools/papers/wrong_programs.py --check || status=1
 python3 tools/papers/reading.py --check || status=1
+python3 tools/papers/map.py || status=1
+python3 tools/papers/links.py || status=1
+python3 tools/papers/manifest.py || status=1
 exit $status
