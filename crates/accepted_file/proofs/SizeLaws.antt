@@ -1,14 +1,14 @@
 -- An accepted build's header, sound and trailer are far below what a size can tell, and the sound is named once. Assumes nothing.
 use mathlib.Core.Path.{_≡_, refl, ap}
 use mathlib.Core.Bool.{Bool, true, false, cond}
-use mathlib.Core.List.{List, [], _∷_, _++_, map}
-use Prim.Native.Nat.{ℕ, zero, suc, _+_, _*_, _/_, _^_, _≤_, _<_, min}
+use mathlib.Core.List.{List, [], _∷_, _++_, map, flatMap}
+use Prim.Native.Nat.{ℕ, zero, suc, _+_, _-_, _*_, _/_, _^_, _≤_, _<_, min}
 use native.Mathlib.Nat.{mul-le-mul}
 use native.Mathlib.Numerals.{add-one}
 use native.Mathlib.Omega.{arith}
 use lib.Dec.{eqb}
 use borrow.Author.Tests.{eqb-false}
-use lib.ListN.{length, getD, take, drop, length-append, length-take}
+use lib.ListN.{length, getD, take, drop, length-append}
 use Rattle.chunk.specs.Number.{be}
 use Rattle.chunk_names.specs.Name.{ascii}
 use Rattle.chunk.specs.Chunk.{chunk, occupied}
@@ -17,7 +17,6 @@ use Rattle.chunk_names.specs.declared.LocalChunk.{LocalChunk}
 use Rattle.chunk_names.specs.declared.LocalChunk.the-variants.{Property, SoundData, DstIndex, EditedMasterInfo, Comments}
 use Rattle.chunk.proofs.NumberLaws.{length-be}
 use Rattle.chunk.proofs.ChunkLaws.{length-chunk}
-use Rattle.chunk.proofs.ListLaws.{flatMap-bound}
 use Rattle.tree.proofs.TreeLaws.{bytes-stop, bytes-leaf, bytes-node}
 use Rattle.texts.specs.Extent.{part}
 use Rattle.texts.specs.declared.extent.Extent.{Extent}
@@ -34,13 +33,16 @@ use Rattle.prop_fields.specs.declared.compression.Sound.{Sound}
 use Rattle.prop_fields.specs.declared.compression.Sound.the-variants.{Dsd, Dst}
 use Rattle.prop.proofs.PropertyLaws.{property-short}
 use Rattle.master_info.specs.Diin.{infoChunks, hasDiin, diin}
+use Rattle.refusal.specs.Below.{below}
 use Rattle.refusal.specs.Orders.{localRank, times}
+use Rattle.refusal.proofs.OrderLaws.{once-room}
 use Rattle.refusal.specs.declared.verdict.Verdict.the-variants.{Accepted}
 use Rattle.build_options.specs.Area.{areaPositions, isDst}
 use Rattle.build_options.specs.Inputs.{Inputs}
+use Rattle.rules.specs.Limits.{longestText}
 use Rattle.checks.specs.InputVerdict.{verdict}
 use Rattle.checks.proofs.AcceptedLaws as accepted
-use Rattle.checks.proofs.DiinBelowLaws.{diin-low}
+use Rattle.checks.proofs.DiinBelowLaws.{written-low}
 use Rattle.file_tree.specs.Parts.{parts, properties, info, hasIndex, firstOffset}
 use Rattle.file_tree.specs.Sound.{soundSize, soundHead}
 use Rattle.caller_chunks.specs.Caller.{callerChunk}
@@ -65,24 +67,35 @@ unfolding sum
 sum-low crc [] h = omega arith
 sum-low crc (l ∷ ls) h = omega (arith, unit-low crc l (h 0 (omega arith)), sum-low crc ls (λ k i. h (suc k) (omega arith)))
 
--- names on one side are no more than all
-before-few : (cs : List LocalChunk) → length (before cs) ≤ length cs
-unfolding before
-before-few [] = omega arith
-before-few (c ∷ cs) = go (isSound c) (before-few cs)
+-- what is made of the names on one side is no more than what is made of all
+before-room : (f : LocalChunk → List ℕ) (cs : List LocalChunk) → length (flatMap f (before cs)) ≤ length (flatMap f cs)
+unfolding before flatMap
+before-room f [] = omega arith
+before-room f (c ∷ cs) = rw (length-append) (go (isSound c) (before-room f cs))
   where
-    go : (t : Bool) → length (before cs) ≤ length cs → length (cond t [] (c ∷ before cs)) ≤ suc (length cs)
+    go : (t : Bool) → length (flatMap f (before cs)) ≤ length (flatMap f cs) → length (flatMap f (cond t [] (c ∷ before cs))) ≤ length (f c) + length (flatMap f cs)
     go true h = omega arith
-    go false h = omega arith
+    go false h = rw (length-append) (omega (arith, h))
 
-behind-few : (cs : List LocalChunk) → length (behind cs) ≤ length cs
-unfolding behind
-behind-few [] = omega arith
-behind-few (c ∷ cs) = go (isSound c) (behind-few cs)
+behind-room : (f : LocalChunk → List ℕ) (cs : List LocalChunk) → length (flatMap f (behind cs)) ≤ length (flatMap f cs)
+unfolding behind flatMap
+behind-room f [] = omega arith
+behind-room f (c ∷ cs) = rw (length-append) (go (isSound c) (behind-room f cs))
   where
-    go : (t : Bool) → length (behind cs) ≤ length cs → length (cond t cs (behind cs)) ≤ suc (length cs)
+    go : (t : Bool) → length (flatMap f (behind cs)) ≤ length (flatMap f cs) → length (flatMap f (cond t cs (behind cs))) ≤ length (f c) + length (flatMap f cs)
     go true h = omega arith
-    go false h = omega arith
+    go false h = omega (arith, h)
+
+five-names : (c : LocalChunk) → localRank c < 5
+five-names Property = omega arith
+five-names SoundData = omega arith
+five-names DstIndex = omega arith
+five-names EditedMasterInfo = omega arith
+five-names Comments = omega arith
+
+-- the most bytes of each local chunk, by its number: PROP (13 + 194), the sound (none of it here), DSTI, DIIN, COMT
+abbrev localMosts : ℕ → ℕ
+localMosts r = getD (207 ∷ 0 ∷ (2 ^ 24) ∷ (13 + 2 ^ 38) ∷ (2 ^ 36) ∷ []) r 0
 
 rank-take : (n : ℕ) (cs : List LocalChunk) → map localRank (take n cs) ≡ take n (map localRank cs)
 rank-take zero cs = refl
@@ -92,11 +105,14 @@ rank-take (suc n) (c ∷ cs) = ap (λ (l : List ℕ). localRank c ∷ l) (rank-t
 one-of : (n : ℕ) → n ≤ 1 → (n ≡ 0 → ⊥) → n ≡ 1
 one-of n most some = omega arith
 
--- a local chunk that is named is named once
+-- a local chunk is named at most once (37), and once if it is named
+named-few : (x : Inputs) → verdict x ≡ Accepted → (rank : ℕ) → rank < 5 → times (map localRank (given x)) rank ≤ 1
+named-few x ok rank h = rw (rank-take (min (x .localCount) 5) (x .localOrder)) (accepted.local-once x ok rank h)
+
 pub named-once : (x : Inputs) → verdict x ≡ Accepted → (rank : ℕ) → rank < 5
     → eqb (times (take (min (x .localCount) 5) (map localRank (x .localOrder))) rank) 0 ≡ false → times (map localRank (given x)) rank ≡ 1
 named-once x ok rank h named =
-    rw (rank-take (min (x .localCount) 5) (x .localOrder)) (one-of _ (accepted.local-once x ok rank h) (eqb-false _ 0 named))
+    one-of _ (named-few x ok rank h) (rw (rank-take (min (x .localCount) 5) (x .localOrder)) (eqb-false _ 0 named))
 
 module _ (x : Inputs) (ok : verdict x ≡ Accepted) (sized : Ordered x) where
   pub positions-few : areaPositions (x .area) ≤ 1_151_999
@@ -124,6 +140,7 @@ module _ (x : Inputs) (ok : verdict x ≡ Accepted) (sized : Ordered x) where
           omega (arith, most)
       go Dst = omega (arith, sum-low (x .options .«dst_crc») (x .lengths) (λ k h. accepted.lengths-bound x ok k h .1), lengths-few)
 
+  -- (of texts of 1,048,576 values too, but of none that are much longer)
   comments-low : length (comt (x .pool) (x .comments) (info (parts x) .text)) ≤ 2 ^ 36
   unfolding comt
   comments-low = go (hasComt cs) refl
@@ -131,53 +148,45 @@ module _ (x : Inputs) (ok : verdict x ≡ Accepted) (sized : Ordered x) where
       cs : List Written
       cs = writtenComments (x .pool) (x .comments) (info (parts x) .text)
 
-      fits : Fits 65_536 cs
-      fits = comments-fit (x .pool) (info (parts x) .text) 65_536 (x .comments) (λ k h. omega (arith, accepted.comments-fit x ok .short k h))
+      fits : Fits (1 + longestText) cs
+      fits = comments-fit (x .pool) (info (parts x) .text) (1 + longestText) (x .comments) (λ k h. omega (arith, accepted.comments-fit x ok .short k h))
 
       go : (b : Bool) → hasComt cs ≡ b → length (cond b (chunk (ascii "COMT") (comtData cs)) []) ≤ 2 ^ 36
       go true e =
           let size = length-comtData 0 cs in
-          omega (arith, chunk-low true (ascii "COMT") (comtData cs) (2 ^ 33) refl (omega (arith, size, comtData-short 65_536 cs fits e 0)))
+          chunk-low true (ascii "COMT") (comtData cs) (2 ^ 36 - 13) refl (omega (arith, size, comtData-short (1 + longestText) cs fits e 0))
       go false e = omega arith
 
-  diin-short : length (bytes (diin (x .pool) (x .raw) (x .tracks) (x .markers) (info (parts x)) (x .infoOrder))) ≤ 2 ^ 36
+  diin-short : length (bytes (diin (x .pool) (x .raw) (x .tracks) (x .markers) (info (parts x)) (x .infoOrder))) ≤ 13 + 2 ^ 38
   unfolding diin
-  diin-short = go (hasDiin (x .pool) (x .raw) (x .tracks) (x .markers) (info (parts x)) (x .infoOrder))
+  diin-short = go (hasDiin (x .pool) (x .raw) (x .tracks) (x .markers) (info (parts x)) (x .infoOrder)) refl
     where
-      go : (b : Bool) → length (bytes (cond b (node (ascii "DIIN") [] (infoChunks (x .pool) (x .raw) (x .tracks) (x .markers) (info (parts x)) (x .infoOrder)) stop) stop)) ≤ 2 ^ 36
-      go true =
-          rw bytes-node
-          (omega (
-            arith,
-            chunk-low true (ascii "DIIN") (bytes (infoChunks (x .pool) (x .raw) (x .tracks) (x .markers) (info (parts x)) (x .infoOrder))) (2 ^ 35) refl
-                (diin-low x ok (omega (arith, sized .info))),
-          ))
-      go false = rw bytes-stop (omega arith)
+      go : (b : Bool) → hasDiin (x .pool) (x .raw) (x .tracks) (x .markers) (info (parts x)) (x .infoOrder) ≡ b
+          → length (bytes (cond b (node (ascii "DIIN") [] (infoChunks (x .pool) (x .raw) (x .tracks) (x .markers) (info (parts x)) (x .infoOrder)) stop) stop)) ≤ 13 + 2 ^ 38
+      go true has = rw bytes-node (chunk-low true (ascii "DIIN") _ (2 ^ 38) refl (written-low x ok has))
+      go false has = rw bytes-stop (omega arith)
 
   module _ (base : ℕ) where
-    local-low : (c : LocalChunk) → length (localBytes (parts x) base c) ≤ 2 ^ 36
+    -- each local chunk by itself
+    local-low : (c : LocalChunk) → length (localBytes (parts x) base c) ≤ localMosts (localRank c)
     unfolding localBytes property
     local-low Property =
         rw bytes-node
-        (omega (
-          arith,
-          chunk-low true (ascii "PROP") (ascii "SND " ++ bytes (propertyChunks (x .propertyOrder) (properties (parts x)))) 194 refl
-              (property-short (properties (parts x)) (x .propertyOrder) (sized .property)),
-        ))
+        (chunk-low true (ascii "PROP") (ascii "SND " ++ bytes (propertyChunks (x .propertyOrder) (properties (parts x)))) 194 refl
+        (property-short (properties (parts x)) (x .propertyOrder) (sized .property)))
     local-low SoundData = omega arith
     local-low DstIndex = go (hasIndex (parts x))
       where
-        go : (b : Bool) → length (cond b (dsti (x .options .«dst_crc») (firstOffset (parts x) base) (x .lengths)) []) ≤ 2 ^ 36
+        go : (b : Bool) → length (cond b (dsti (x .options .«dst_crc») (firstOffset (parts x) base) (x .lengths)) []) ≤ 2 ^ 24
         go true = rw (length-dsti) (omega (arith, lengths-few))
         go false = omega arith
     local-low EditedMasterInfo = diin-short
     local-low Comments = comments-low
 
-    locals-low : (cs : List LocalChunk) → length cs ≤ 5 → length (localsBytes (parts x) base cs) ≤ 5 * 2 ^ 36
-    locals-low cs few = omega (arith, flatMap-bound (localBytes (parts x) base) (2 ^ 36) local-low cs, few)
-
-    given-few : length (given x) ≤ 5
-    given-few = rw (length-take (min (x .localCount) 5) (x .localOrder)) (omega arith)
+    -- and all of them, each name once
+    locals-low : length (localsBytes (parts x) base (given x)) ≤ 2 ^ 38 + 2 ^ 37
+    unfolding below
+    locals-low = omega (arith, once-room localRank (localBytes (parts x) base) localMosts local-low 5 five-names (given x) (named-few x ok))
 
     head-low : (s : Sound) → length (soundHead s (x .area) (x .options .«dst_crc») (x .lengths)) ≤ 30
     unfolding soundHead
@@ -188,7 +197,7 @@ module _ (x : Inputs) (ok : verdict x ≡ Accepted) (sized : Ordered x) where
     unfolding front occupied
     front-low =
         rw (length-append, length-append, length-append, length-chunk (ascii "FVER") version refl, length-be)
-        (omega (arith, locals-low (before (given x)) (omega (arith, before-few (given x), given-few)), head-low (x .area .sound)))
+        (omega (arith, before-room (localBytes (parts x) base) (given x), locals-low, head-low (x .area .sound)))
 
     caller-low : (row : List ℕ) → getD row 2 0 ≤ 16_777_216 → length (bytes (callerChunk (x .raw) row)) ≤ 16_777_229
     unfolding callerChunk
@@ -209,4 +218,4 @@ module _ (x : Inputs) (ok : verdict x ≡ Accepted) (sized : Ordered x) where
     back-low =
         let n = length (x .callers) / 3 in
         rw (length-append, ← callers-all (x .raw) (x .callers) n (omega arith))
-        (omega (arith, locals-low (behind (given x)) (omega (arith, behind-few (given x), given-few)), callers-some n (omega arith), accepted.callers-fit x ok .few))
+        (omega (arith, behind-room (localBytes (parts x) base) (given x), locals-low, callers-some n (omega arith), accepted.callers-fit x ok .few))

@@ -7,7 +7,7 @@ use native.Mathlib.Omega.{arith}
 use lib.Dec.{eqb}
 use lib.ListN.{length, getD}
 use Rattle.refusal.specs.Orders.{times}
-use Rattle.file_tree.proofs.SideLaws.{times-cons, times-none}
+use Rattle.refusal.proofs.OrderLaws.{times-cons, times-none}
 
 -- a list so many times
 unfoldable repeated : {B : Type 0} → List B → ℕ → List B

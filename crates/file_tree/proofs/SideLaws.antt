@@ -2,17 +2,16 @@
 use mathlib.Core.Path.{_≡_, refl, ap, _∙_}
 use mathlib.Core.Bool.{Bool, true, false, cond, not, _||_}
 use mathlib.Core.List.{List, [], _∷_, _++_, map, flatMap, append-assoc}
-use Prim.Native.Nat.{ℕ, zero, suc, _+_, _<_}
+use Prim.Native.Nat.{ℕ, _+_, _<_}
 use native.Mathlib.Numerals.{add-one}
 use native.Mathlib.Omega.{arith}
-use lib.Dec.{eqb}
 use lib.ListN.{length, take, getD}
 use lib.Seq.{take-suc}
 use Rattle.chunk_names.specs.declared.LocalChunk.{LocalChunk}
 use Rattle.chunk_names.specs.declared.LocalChunk.the-variants.{Property, SoundData, DstIndex, EditedMasterInfo, Comments}
 use Rattle.chunk.proofs.ListLaws.{flatMap-append, flatMap-one}
-use Rattle.refusal.specs.Below.{below, howMany}
 use Rattle.refusal.specs.Orders.{localRank, times}
+use Rattle.refusal.proofs.OrderLaws.{times-cons, times-none}
 use Rattle.file_tree.specs.Sides.{isSound, before, behind}
 use Rattle.file_tree.specs.Steps.{onSide, hasSound, side}
 
@@ -81,20 +80,6 @@ module _ (l : List LocalChunk) (i : ℕ) (d : LocalChunk) (h : i < length l) whe
       ∙ ap (flatMap f) (side-more b (take i l) (getD l i d) ∙ ap (λ (t : Bool). side b (take i l) ++ cond t (getD l i d ∷ []) []) e)
       ∙ flatMap-append f (side b (take i l)) (cond t (getD l i d ∷ []) [])
       ∙ ap (λ (s : List ℕ). flatMap f (side b (take i l)) ++ s) (if-one f t)
-
--- how often a number is in a row, by the row's first number
-how-many-front : (f : ℕ → Bool) (n : ℕ) → howMany f (suc n) ≡ cond (f 0) 1 0 + howMany (λ k. f (suc k)) n
-unfolding below
-how-many-front f zero = omega arith
-how-many-front f (suc n) = omega (arith, how-many-front f n)
-
-pub times-cons : (x : ℕ) (xs : List ℕ) (r : ℕ) → times (x ∷ xs) r ≡ cond (eqb x r) 1 0 + times xs r
-unfolding times
-times-cons x xs r = how-many-front (λ k. eqb (getD (x ∷ xs) k 0) r) (length xs)
-
-pub times-none : (r : ℕ) → times [] r ≡ 0
-unfolding times below
-times-none r = refl
 
 -- THE SOUND IS NAMED ONCE: what is made of the names before it, of itself, and of the names behind it
 module _ (f : LocalChunk → List ℕ) (g : LocalChunk → List ℕ) (same : (c : LocalChunk) → isSound c ≡ false → f c ≡ g c) where

@@ -1,18 +1,18 @@
 -- How large DIIN can be, chunk by chunk. Assumes nothing.
 use mathlib.Core.Path.{_≡_, refl}
 use mathlib.Core.Bool.{Bool, true, false, cond, not}
-use mathlib.Core.List.{List, [], _∷_}
+use mathlib.Core.List.{List, []}
 use Prim.Native.Nat.{ℕ, _+_, _*_, _≤_}
 use native.Mathlib.Nat.{le-trans, mul-le-mul-left}
 use native.Mathlib.Omega.{arith}
 use lib.Dec.{eqb}
-use lib.ListN.{length, length-append}
+use lib.ListN.{length}
 use Rattle.chunk_names.specs.Name.{Name, ascii}
 use Rattle.chunk.specs.Chunk.{chunk}
-use Rattle.tree.specs.Tree.{bytes, each}
+use Rattle.tree.specs.Tree.{bytes}
 use Rattle.chunk_names.specs.declared.InfoChunk.{InfoChunk}
 use Rattle.chunk_names.specs.declared.InfoChunk.the-variants.{EditedMasterId, Markers, Artist, Title}
-use Rattle.tree.proofs.TreeLaws.{bytes-stop, bytes-leaf, bytes-each-cons}
+use Rattle.tree.proofs.TreeLaws.{bytes-stop, bytes-leaf}
 use Rattle.texts.specs.Extent.{part}
 use Rattle.texts.specs.Text.{textBytes, isWritten}
 use Rattle.diin_texts.specs.DiinText.{diinTextData, givenTextBytes, diinText}
@@ -23,7 +23,7 @@ use Rattle.texts.proofs.ExtentLaws.{length-part}
 use Rattle.texts.proofs.TextLaws.{extent-short}
 use Rattle.diin_texts.proofs.DiinTextLaws.{length-diin-text, diin-text-tree}
 use Rattle.master_info.specs.Pick.{ofTrack, firstPresent, pick}
-use Rattle.master_info.specs.Diin.{marking, markersOf, chosen, artistOf, titleOf, emid, infoChunk, infoChunks}
+use Rattle.master_info.specs.Diin.{marking, markersOf, chosen, artistOf, titleOf, emid, infoChunk}
 use Rattle.master_info.specs.declared.pick.ArtistTitleSource.{ArtistTitleSource}
 use Rattle.master_info.specs.declared.pick.ArtistTitleSource.the-variants.{Album, Track, TrackThenAlbum}
 use Rattle.master_info.specs.declared.diin.Info.{Info}
@@ -86,19 +86,20 @@ module _ (n : ℕ) where
     pub texts : ShortTexts n (markersOf tracks custom info)
     pub few : length (markersOf tracks custom info) ≤ k
 
-  module _ (k : ℕ) (pool raw tracks custom : List ℕ) (info : Info) (l : Limited k tracks custom info) where
-    -- each chunk of DIIN, and the run of MARK
-    info-room : (c : InfoChunk) → length (bytes (infoChunk pool raw tracks custom info c)) ≤ (36 + n) * (1 + k)
-    unfolding infoChunk
-    info-room EditedMasterId = omega (arith, emid-room raw (info .emid) (l .id))
-    info-room Markers =
-        omega (arith, marks-room n pool raw (marking info) (markersOf tracks custom info) (l .texts), mul-le-mul-left (36 + n) (l .few))
-    info-room Artist =
-        rw (diin-text-tree) (omega (arith, text-room (ascii "DIAR") refl pool (artistOf info) (info .text) (chosen-short info _ _ (l .artists .0) (l .artists .1))))
-    info-room Title =
-        rw (diin-text-tree) (omega (arith, text-room (ascii "DITI") refl pool (titleOf info) (info .text) (chosen-short info _ _ (l .titles .0) (l .titles .1))))
+  -- the most bytes of each chunk of DIIN, and of a run of at most k MARK
+  abbrev pub infoMost : ℕ → InfoChunk → ℕ
+  infoMost k EditedMasterId = 13 + n
+  infoMost k Markers = (36 + n) * k
+  infoMost k Artist = 18 + n
+  infoMost k Title = 18 + n
 
-    pub diin-room : (order : List InfoChunk) → length (bytes (infoChunks pool raw tracks custom info order)) ≤ (36 + n) * (1 + k) * length order
-    unfolding each
-    diin-room [] = rw (bytes-stop) (omega arith)
-    diin-room (c ∷ cs) = rw (bytes-each-cons, length-append) (omega (arith, info-room c, diin-room cs))
+  pub info-room : (k : ℕ) (pool raw tracks custom : List ℕ) (info : Info) → Limited k tracks custom info
+      → (c : InfoChunk) → length (bytes (infoChunk pool raw tracks custom info c)) ≤ infoMost k c
+  unfolding infoChunk
+  info-room k pool raw tracks custom info l EditedMasterId = emid-room raw (info .emid) (l .id)
+  info-room k pool raw tracks custom info l Markers =
+      le-trans (marks-room n pool raw (marking info) (markersOf tracks custom info) (l .texts)) (mul-le-mul-left (36 + n) (l .few))
+  info-room k pool raw tracks custom info l Artist =
+      rw (diin-text-tree) (text-room (ascii "DIAR") refl pool (artistOf info) (info .text) (chosen-short info _ _ (l .artists .0) (l .artists .1)))
+  info-room k pool raw tracks custom info l Title =
+      rw (diin-text-tree) (text-room (ascii "DITI") refl pool (titleOf info) (info .text) (chosen-short info _ _ (l .titles .0) (l .titles .1)))
