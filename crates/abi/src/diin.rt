@@ -26,7 +26,7 @@ pub extern "C" fn jangqeruz_diin(
     first: u32,
     end: u32,
     playtime: u32,
-    source_track: u8,
+    source_track: u16,
     source_track_markers: bool,
     clipped_program: bool,
     titles: bool,

@@ -27,13 +27,17 @@ sourceFault a tracks source =
     ∷ refuseIf (not (hasFrames (clip (a .first) (a .end) (trackSpan tracks (source - 1))))) 14 0
     ∷ []))
 
--- 15: "Edited master (15 to 23): the range isn't 0 to playtime". 16: "Unspecified layout". 17: "No tracks"
+-- the most tracks of an edited master (02, job 10)
+abbrev pub mostMasterTracks : ℕ
+mostMasterTracks = 255
+
+-- 15: "Edited master (15 to 23): the range isn't 0 to playtime". 16: "Unspecified layout". 17: "No tracks, or more than 255" (01; the second by 02, job 10)
 unfoldable pub masterAreaFault : Area → List ℕ → Verdict
 masterAreaFault a tracks =
     firstOf
     (refuseIf (not (eqb (a .first) 0) || not (eqb (a .end) (a .playtime))) 15 0
     ∷ refuseIf (unspecified (a .layout)) 16 0
-    ∷ refuseIf (eqb (trackCount tracks) 0) 17 0
+    ∷ refuseIf (eqb (trackCount tracks) 0 || ltb mostMasterTracks (trackCount tracks)) 17 0
     ∷ [])
 
 -- the end of the last track, 0 if there is none

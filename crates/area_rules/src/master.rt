@@ -10,8 +10,11 @@ use refusal::verdict::Verdict;
 use refusal::verdict::refuse_if;
 use rows::row::Row;
 
+// The most tracks of an edited master.
+const MOST_MASTER_TRACKS: usize = 255;
+
 // 13 and 14
-fn source_fault(area: Area, tracks: &[u32], source_track: u8) -> Verdict
+fn source_fault(area: Area, tracks: &[u32], source_track: u16) -> Verdict
     ensures { λ r. ⌜ r ≡ sourceFault area (now (tracks .entry)) «source_track» ⌝ }
 {
     if source_track == 0 {
@@ -35,7 +38,8 @@ fn master_area_fault(area: Area, tracks: &[u32]) -> Verdict
     let kind = Row::Track;
     let v15 = refuse_if((area.first != 0) | (area.end != area.playtime), 15, 0);
     let v16 = refuse_if(is_unspecified(layout), 16, 0);
-    let v17 = refuse_if(kind.count(tracks) == 0, 17, 0);
+    let n = kind.count(tracks);
+    let v17 = refuse_if((n == 0) | (MOST_MASTER_TRACKS < n), 17, 0);
     v15.or_else(v16.or_else(v17))
 }
 

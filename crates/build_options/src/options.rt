@@ -36,7 +36,7 @@ pub struct Options {
     pub dst_crc: bool, // whether each DSTF is followed by DSTC
     pub dst_index: bool, // whether a DST file has DSTI
     pub dst_index_offset: DstIndexOffset,
-    pub source_track: u8, // from 1 on, 0 for none
+    pub source_track: u16, // from 1 on, 0 for none
     pub edited_master: bool,
     pub edited_master_info: bool, // whether there is a DIIN
     pub edited_master_id_written: bool, // whether DIIN has EMID
@@ -62,7 +62,7 @@ pub struct Settings {
     pub start: Start,
     pub info: bool,
     pub artist_title: bool,
-    pub source_track: u8,
+    pub source_track: u16,
 }
 
 pub fn defaults() -> Options

@@ -78,7 +78,7 @@ fn absent() -> ArtistTitle {
 }
 
 // Frames first to end of 150.
-fn program(first: u32, end: u32, source_track: u8) -> ProgramOptions {
+fn program(first: u32, end: u32, source_track: u16) -> ProgramOptions {
     ProgramOptions {
         first: first,
         end: end,

@@ -1,6 +1,6 @@
--- 1: "A text (EMID and marker texts included) exceeds 65,535 values, or tracks or caller chunks exceed 255, custom markers 65,535, or one caller chunk 16,777,216
--- bytes". 2: "A stretch runs outside its pool". 3: "A text value is no Unicode scalar". Every text that is given counts, used or not; given markers only if they
--- are wanted. Assumes nothing.
+-- 1: "A text (EMID and marker texts included) exceeds 65,535 values, or tracks exceed 65,535, caller chunks 255, custom markers 65,535, or one caller chunk
+-- 16,777,216 bytes" (01; the tracks by 02, job 10). 2: "A stretch runs outside its pool". 3: "A text value is no Unicode scalar". Every text that is given counts,
+-- used or not; given markers only if they are wanted. Assumes nothing.
 use Prim.Native.Nat.{ℕ, _-_, _^_}
 use mathlib.Core.Bool.{Bool, _&&_, _||_}
 use mathlib.Core.List.{List, [], _∷_}
@@ -21,7 +21,7 @@ abbrev pub longestCallerChunk : ℕ
 longestCallerChunk = 16_777_216
 
 abbrev pub mostTracks : ℕ
-mostTracks = 255
+mostTracks = 65_535
 
 abbrev pub mostCallerChunks : ℕ
 mostCallerChunks = 255

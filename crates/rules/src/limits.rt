@@ -14,7 +14,7 @@ const LONGEST_TEXT: u32 = 65_535;
 
 const LONGEST_CALLER_CHUNK: u32 = 16_777_216;
 
-const MOST_TRACKS: u64 = 255;
+const MOST_TRACKS: u64 = 65_535;
 
 const MOST_CALLER_CHUNKS: u64 = 255;
 

@@ -11,7 +11,7 @@ pub struct ProgramOptions {
     pub first: u32, // the range
     pub end: u32,
     pub playtime: u32,
-    pub source_track: u8, // from 1 on, 0 for none
+    pub source_track: u16, // from 1 on, 0 for none
     pub source_track_markers: bool, // whether a source track gives markers
     pub clipped_program: bool, // whether a range that is not the play range does
     pub titles: bool, // whether a track's start has its title

@@ -22,14 +22,15 @@ exceeds w i n most = any (λ k. ltb most (wordOf w (i + k))) n
 abbrev pub beyond : List ℕ → ℕ → ℕ → ℕ → ℕ → Verdict
 beyond w i n most number = refuseIf (exceeds w i n most) number 0
 
--- fewer or more words (2); channels that no u8 holds (7); no layout (8); a source track (13) and a replacement (24) that no u8 holds; channel numbers that no u16 holds (26)
+-- fewer or more words (2); channels that no u8 holds (7); no layout (8); a source track that no u16 holds (13); a replacement that no u8 holds (24); channel numbers that
+-- no u16 holds (26)
 unfoldable pub fieldFaults : List ℕ → Verdict
 fieldFaults w =
     firstOf
     (refuseIf (not (eqb (length w) wordCount)) 2 0
     ∷ beyond w 2 1 255 7
     ∷ beyond w 3 1 3 8
-    ∷ beyond w 21 1 255 13
+    ∷ beyond w 21 1 65_535 13
     ∷ beyond w 47 1 255 24
     ∷ beyond w 8 6 65_535 26
     ∷ [])

@@ -37,7 +37,7 @@ fn field_faults(words: &[u32]) -> Verdict
     let v2 = refuse_if(words.len() != WORDS, 2, 0);
     let v7 = beyond(words, 2, 1, 255, 7);
     let v8 = beyond(words, 3, 1, 3, 8);
-    let v13 = beyond(words, 21, 1, 255, 13);
+    let v13 = beyond(words, 21, 1, 65_535, 13);
     let v24 = beyond(words, 47, 1, 255, 24);
     let v26 = beyond(words, 8, 6, 65_535, 26);
     v2.or_else(v7.or_else(v8.or_else(v13.or_else(v24.or_else(v26)))))

@@ -53,7 +53,7 @@ pub fn options_of(words: &[u32]) -> Options
         dst_crc: is_set(words, 18),
         dst_index: is_set(words, 19),
         dst_index_offset: meanings::sound::offset(is_set(words, 20)),
-        source_track: byte(words, 21),
+        source_track: half(words, 21),
         edited_master: is_set(words, 22),
         edited_master_info: is_set(words, 23),
         edited_master_id_written: is_set(words, 24),

@@ -27,7 +27,7 @@ returns c =
       «dst_crc» = offset .before .before .before .is-set4 .ensures i;
       «dst_index» = offset .before .before .is-set5 .ensures i;
       «dst_index_offset» = (offset .offset .ensures ∙ ap offsetOf (offset .before .is-set6 .ensures)) i;
-      «source_track» = id .before .before .before .before .before .byte .ensures i;
+      «source_track» = id .before .before .before .before .before .half .ensures i;
       «edited_master» = id .before .before .before .before .is-set7 .ensures i;
       «edited_master_info» = id .before .before .before .is-set8 .ensures i;
       «edited_master_id_written» = id .before .before .is-set9 .ensures i;
@@ -38,10 +38,10 @@ returns c =
       «marker_titles» = marks .before .is-set13 .ensures i;
       «text_pad_counted» = marks .is-set14 .ensures i;
       «artist_title» = (switch .artist-title .ensures ∙ ap switchOf (switch .before .word4 .ensures)) i;
-      «artist_title_source» = (source .artist-title-source .ensures ∙ ap sourceOf (source .before .byte2 .ensures)) i;
+      «artist_title_source» = (source .artist-title-source .ensures ∙ ap sourceOf (source .before .byte .ensures)) i;
       album = record { artist = tags .before .before .before .text-at .ensures i; title = tags .before .before .text-at2 .ensures i };
       track = record { artist = tags .before .text-at3 .ensures i; title = tags .text-at4 .ensures i };
-      «text_replacement» = (replaced .replacement .ensures ∙ ap₂ replacementOf (replaced .before .before .is-set15 .ensures) (replaced .before .byte3 .ensures)) i;
+      «text_replacement» = (replaced .replacement .ensures ∙ ap₂ replacementOf (replaced .before .before .is-set15 .ensures) (replaced .before .byte2 .ensures)) i;
       «empty_text» = c .before .before .before .is-set16 .ensures i;
       «empty_info» = c .before .before .is-set17 .ensures i;
       d1 = c .before .is-set18 .ensures i;
