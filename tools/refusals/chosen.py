@@ -57,6 +57,9 @@ def refusal_1(add):
     add("r01-marker-text-65536-written", "marker 0 4 0 41*65536;info 1")
     add("r01-tracks-255", times("track 0 1", 255), "accepted 9552")
     add("r01-tracks-256", times("track 0 1", 256), "accepted 9552")
+    add("r01-tracks-65535", times("track 0 1", 65535), "accepted 9552")
+    add("r01-tracks-65536", times("track 0 1", 65536), "accepted 9552")
+    add("r01-edited-tracks-65536", "edited_master 1;" + times("track 0 1", 65536), refused(17))
     add("r01-callers-255", times("caller 41414141 .", 255), f"accepted {9552 + 255 * 12}")
     add("r01-callers-256", times("caller 41414141 .", 256), f"accepted {9552 + 256 * 12}")
     add("r01-markers-65535", "info 1;" + times("marker 0 4 0 .", 65535))
@@ -64,9 +67,6 @@ def refusal_1(add):
     add("r01-markers-65536-info-off", times("marker 0 4 0 .", 65536), "accepted 9552")
     add("r01-caller-16777216", "caller 41414141 00*16777216", f"accepted {9552 + 12 + 16777216}")
     add("r01-caller-16777217", "caller 41414141 00*16777217", f"accepted {9552 + 12 + 16777218}")
-    add("r01-edited-tracks-255", "edited_master 1;playtime 19125;range 0 19125;" + tracks_in_a_row(255))
-    add("r01-edited-tracks-256", "edited_master 1;playtime 19200;range 0 19200;" + tracks_in_a_row(256), refused(17))
-    add("r01-edited-tracks-256-smallest", "edited_master 1;" + times("track 0 1", 256), refused(17))
     add("r01-marker-text-65535", "marker 0 4 0 41*65535;info 1")
     add("r01-comment-written-65536-d2", "departures d2;comment 0 0 0 0 0 0 0 c3bf*65536")
     for tag in ("title", "performer", "album_artist"):
@@ -184,6 +184,7 @@ def refusals_13_and_14(add):
     add("r13-1-of-1", "track 0 1;source_track 1")
     add("r13-255-of-255", times("track 0 1", 255) + ";source_track 255")
     add("r13-255-of-254", times("track 0 1", 254) + ";source_track 255", refused(13))
+    add("r13-255-of-65535", times("track 0 1", 65535) + ";source_track 255")
     add("r13-not-for-edited", "edited_master 1;playtime 75;range 0 75;track 0 75;source_track 9")
     add("r13-zero-is-not-none", "source_track 0", refused(13))
     add("r13-none", "source_track none", "accepted 9552")
@@ -206,11 +207,20 @@ def refusals_15_to_20(add):
     add("r16-five", EDITED + "channels 5;config 3")
     add("r16-six", EDITED + "channels 6;config 4")
     add("r17-none", "edited_master 1", refused(17))
+    add("r17-255", "edited_master 1;playtime 19125;range 0 19125;" + tracks_in_a_row(255))
+    add("r17-256", "edited_master 1;playtime 19200;range 0 19200;" + tracks_in_a_row(256), refused(17))
+    add("r17-256-smallest", "edited_master 1;" + times("track 0 1", 256), refused(17))
+    add("r17-65535", "edited_master 1;" + times("track 0 1", 65535), refused(17))
+    add("r17-256-not-edited", tracks_in_a_row(256))
+    add("r17-before-18", "edited_master 1;" + tracks_in_a_row(255) + ";track 19125 74", refused(17))
+    add("r17-before-19", "edited_master 1;" + tracks_in_a_row(255) + ";track 19124 75", refused(17))
+    add("r17-before-20", "edited_master 1;" + tracks_in_a_row(255) + ";track 19125 1152000", refused(17))
     add("r18-74", "edited_master 1;track 0 74", refused(18, 1))
     add("r18-second", "edited_master 1;track 0 75;track 75 74", refused(18, 2))
     add("r18-two", "edited_master 1;track 0 75;track 75 0;track 80 1", refused(18, 2))
     add("r18-75-past-playtime", "edited_master 1;track 0 75")
     add("r18-255th", "edited_master 1;" + tracks_in_a_row(254) + ";track 19050 74", refused(18, 255))
+    add("r19-255th", "edited_master 1;" + tracks_in_a_row(254) + ";track 19049 75", refused(19))
     add("r19-order", "edited_master 1;track 75 75;track 0 75", refused(19))
     add("r19-overlap-1", "edited_master 1;track 0 76;track 75 75", refused(19))
     add("r19-touching", "edited_master 1;track 0 75;track 75 75")
@@ -218,6 +228,7 @@ def refusals_15_to_20(add):
     add("r19-empty-by-saturation", "edited_master 1;track 4294967295 75", refused(19))
     add("r19-one-frame-by-saturation", "edited_master 1;track 4294967294 75", refused(20))
     add("r19-same-track-twice", "edited_master 1;track 0 75;track 0 75", refused(19))
+    add("r20-255th", "edited_master 1;" + tracks_in_a_row(254) + ";track 19050 1152000", refused(20))
     add("r20-1151999", "edited_master 1;track 0 1151999")
     add("r20-1152000", "edited_master 1;track 0 1152000", refused(20))
     add("r20-last-only-not-first", "edited_master 1;track 0 75;track 1151925 75", refused(20))
@@ -685,6 +696,12 @@ def marks(add):
     add(
         "b-program-source-off",
         "info 1;emid_written 0;playtime 10;range 0 10;track 0 10;source_track 1;clipped_program 1",
+    )
+    add("b-program-256-tracks", "info 1;emid_written 0;playtime 19200;range 0 19200;" + tracks_in_a_row(256))
+    add(
+        "b-program-65535-tracks",
+        "info 1;marker_text title;playtime 131070;range 0 131070;"
+        + ";".join(f"track {2 * place} {1 + place % 2} 41*{place % 4}" for place in range(65535)),
     )
     add("b-program-play", "info 1;emid_written 0;playtime 10;range 0 10;track 0 5;track 6 4")
     add("b-program-play-zero-track", "info 1;emid_written 0;playtime 10;range 0 10;track 0 5;track 5 0;track 5 5")

@@ -32,11 +32,11 @@ INTENDED = (
         "1: the Rust has no limits on texts, tracks, markers and caller chunks.",
     ),
     Intended(
-        "r01-edited-tracks-256",
+        "r01-edited-tracks-65536",
         r"refused 1 0",
         r"refused 17 0 ",
-        2,
-        "1: more than 255 tracks of an edited master are a wrong track count (17) in the Rust.",
+        1,
+        "1: more than 65,535 tracks of an edited master are a wrong track count (17) in the Rust.",
     ),
     Intended(
         "r06-",

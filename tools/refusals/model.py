@@ -1,4 +1,5 @@
-"""Document 01's rules for a build, written from its text: the refusals 1 to 39 in their order, and the bytes.
+"""Document 01's rules for a build, written from its text: the refusals 1 to 39 in their order, and the bytes. Of tracks
+01 has another limit in 1 and none in 17; here 1 is of more than 65,535 and 17 also of more than 255 (document 02).
 
 What the case language cannot say is not here: pools (2), values that are no scalars (3), lengths given for DSD (9),
 short buffers (40, 41). The speaker layout is worked out from the channels and the configuration, so it always has its
@@ -13,7 +14,8 @@ from cases import Marker
 FRAME_BYTES_PER_CHANNEL = 4_704
 LONGEST_DST_FRAME = 65_536
 LONGEST_TEXT = 65_535
-MOST_TRACKS = 255
+MOST_TRACKS = 65_535
+MOST_EDITED_MASTER_TRACKS = 255
 MOST_CALLERS = 255
 MOST_MARKERS = 65_535
 MOST_COMMENTS = 65_535
@@ -232,7 +234,7 @@ def check_edited_master(case):
     """Refusals 15 to 23. Custom markers are a choice, so an empty list of them is refused too (21)."""
     refuse_if(not is_play_range(case), 15)
     refuse_if(speaker_layout(case) == "unspecified", 16)
-    refuse_if(not case.tracks, 17)
+    refuse_if(not 1 <= len(case.tracks) <= MOST_EDITED_MASTER_TRACKS, 17)
     for number, track in enumerate(case.tracks, start=1):
         refuse_if(track.duration < SHORTEST_EDITED_TRACK, 18, number)
     spans = track_spans(case)

@@ -45,7 +45,7 @@ impl Inputs {
         let options = self.options.with_dsdiff_edited_master_info(true).with_dsdiff_artist_title(Some(true));
         let options = options.with_tags(Tags::Set(tags)).with_dsdiff_marker_text(MarkerText::TrackTitle);
         self.options = options.with_dsdiff_comments(texts.comments.iter().map(comment).collect());
-        self.toc.areas[0].tracks = (1..).zip(&texts.tracks).map(|(number, track)| titled(number, track)).collect();
+        self.toc.areas[0].tracks = (1..=u8::MAX).cycle().zip(&texts.tracks).map(|(number, track)| titled(number, track)).collect();
         self
     }
 
@@ -62,7 +62,7 @@ impl Inputs {
     }
 }
 
-/// A track of the table of contents.
+/// A track of the table of contents. Its number is a byte, and a build goes by its place.
 fn titled(number: u8, track: &TitledTrack) -> Track {
     let TitledTrack { start, duration, title } = track;
     Track {

@@ -70,10 +70,17 @@ fn main() -> ExitCode {
 fn run(pool: &Pool, only: Option<Table>) -> Result<(), String> {
     println!("{CHANNELS} channels; ns, the best of {REPETITIONS} repetitions after a warm-up");
     let files = files(pool)?;
-    let [short, _] = AREAS;
-    let texts = [Texts::new("texts", short, 10, 200), Texts::new("long comments", short, 8, 60_000)];
-    let sound = Sound { kind: Kind::Dsd, positions: short, pool };
-    let with_texts = texts.iter().map(|texts| File::new(sound, Some(texts))).collect::<Result<Vec<_>, _>>()?;
+    let [short, long] = AREAS;
+    let texts = [
+        Texts::new("texts", short, 20, 10, 200),
+        Texts::new("long comments", short, 20, 8, 60_000),
+        Texts::new("2,000 tracks", long, 2_000, 0, 0),
+    ];
+    let with_texts = texts.iter().map(|texts| {
+        let sound = Sound { kind: Kind::Dsd, positions: texts.positions, pool };
+        File::new(sound, Some(texts))
+    });
+    let with_texts = with_texts.collect::<Result<Vec<_>, _>>()?;
     let wanted = |table| only.is_none_or(|only| only == table);
     if wanted(Table::Reads) {
         println!();

@@ -9,8 +9,6 @@ use original::TitledTrack;
 
 use crate::random::Random;
 
-/// Tracks, each starting where the one before ends.
-const TRACKS: usize = 20;
 /// Characters of a track's title, of the artist and of the title.
 const TITLE: usize = 40;
 
@@ -22,6 +20,8 @@ const ONE_OF: u32 = 32;
 pub struct Texts {
     /// What the file is called.
     pub name: &'static str,
+    /// The positions that its tracks fill.
+    pub positions: usize,
     pub original: original::Texts,
     pub ours: Rows,
 }
@@ -37,19 +37,20 @@ pub struct Rows {
 }
 
 impl Texts {
-    /// The texts of a file of so many positions, with so many comments of so many characters each.
-    pub fn new(name: &'static str, positions: usize, comments: usize, characters: usize) -> Texts {
+    /// The texts of a file of so many positions: of tracks, each starting where the one before ends, and comments of so
+    /// many characters each.
+    pub fn new(name: &'static str, positions: usize, tracks: usize, comments: usize, characters: usize) -> Texts {
         let mut random = Random(19_991_231);
         let mut text = |characters: usize| iter::repeat_with(|| character(&mut random)).take(characters).collect();
-        let duration = positions / TRACKS;
-        let starts = (0..TRACKS).map(|number| (number * duration) as u32);
+        let duration = positions / tracks;
+        let starts = (0..tracks).map(|number| (number * duration) as u32);
         let original = original::Texts {
             tracks: starts.map(|start| TitledTrack { start, duration: duration as u32, title: text(TITLE) }).collect(),
             artist: text(TITLE),
             title: text(TITLE),
             comments: (0..comments).map(|_| text(characters)).collect(),
         };
-        Texts { name, ours: Rows::new(&original), original }
+        Texts { name, positions, ours: Rows::new(&original), original }
     }
 
     /// How many characters all texts have.

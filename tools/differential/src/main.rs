@@ -21,6 +21,7 @@ mod saved;
 mod sound;
 mod subject;
 mod text;
+mod tracks;
 
 use std::env;
 use std::path::{Path, PathBuf};
@@ -57,13 +58,15 @@ type Run = fn(&Path, &Task) -> Result<bool, String>;
 const COUNT: u64 = 20_000;
 
 /// The subjects, each with that number.
-const SUBJECTS: [(&str, Run, u64); 7] = [
+const SUBJECTS: [(&str, Run, u64); 8] = [
     ("text", subject::run::<text::Text>, COUNT),
     ("markers", subject::run::<markers::Markers>, COUNT),
     ("sound", subject::run::<sound::Sound>, COUNT),
     ("crc", subject::run::<crc::Crc>, COUNT),
     ("checks", subject::run::<checks::Checks>, COUNT),
     ("builds", subject::run::<builds::Builds>, COUNT),
+    // A case has up to 65,536 tracks.
+    ("tracks", subject::run::<tracks::Tracks>, 500),
     // A case has a thousand reads and more.
     ("reads", subject::run::<reads::Reads>, 1_000),
 ];

@@ -50,7 +50,7 @@ pub fn accepted(random: &mut Random) -> Build {
 }
 
 /// Lengths of frames, a few in turn.
-fn draw_lengths(random: &mut Random, build: &mut Build) {
+pub fn draw_lengths(random: &mut Random, build: &mut Build) {
     let count = random.pick(&[1, 2, 3, 7, 20]);
     let most = random.pick(&[2, 5, 40, 40, 300, 65_536]);
     build.lengths.usual = (0..count).map(|_| random.between(1, most)).collect();

@@ -11,7 +11,7 @@ use super::Case;
 use crate::checks::fixed::{self as checks, caller, comments, marker, plain, track, Context, Fixed, Part, NONE};
 use crate::checks::{layout_of, Caller, Case as Build, Comments};
 use crate::markers::draw::{LAST_FRAME, LAYOUTS};
-use crate::markers::MarkerOf;
+use crate::markers::{MarkerOf, TrackOf};
 use crate::random::Random;
 
 pub const DSD: Context = Context { dst: false, edited_master: false };
@@ -283,7 +283,7 @@ fn layouts(cases: &mut Vec<Case>, context: Context) {
     }
 }
 
-/// A source track, and edited masters.
+/// A source track, edited masters, and more tracks than those can have.
 fn tracks(cases: &mut Vec<Case>, context: Context) {
     let source = with(plain(context), |build| {
         set_range(build, 9);
@@ -310,6 +310,19 @@ fn tracks(cases: &mut Vec<Case>, context: Context) {
         build.of.info.conversion.rule = D2;
     });
     cases.push(named("an edited master", 0, full));
+    let many = with(plain(context), |build| {
+        set_range(build, 600);
+        let [_, start, length] = text(build, "Title");
+        let (info, duration) = (&mut build.of.info, if context.dst { 1 } else { 2 });
+        (info.on, info.titles) = (true, true);
+        build.of.tracks = (0..300)
+            .map(|number| TrackOf {
+                title: Extent { start, length: number % (length + 1) },
+                ..track(2 * number, duration)
+            })
+            .collect();
+    });
+    cases.push(named("more than 255 tracks", 0, many));
 }
 
 fn index_in_front(cases: &mut Vec<Case>) {

@@ -9,6 +9,7 @@ use super::Case;
 use crate::checks::fixed::{caller, comments, marker, plain, track, Context, Fixed, Part, NONE};
 use crate::checks::{Beyond, Case as Build, Comments, Place};
 use crate::markers::draw::LAST_FRAME;
+use crate::markers::TrackOf;
 
 pub const NAME: &str = "limits";
 
@@ -111,10 +112,27 @@ fn area(limits: &mut Limits) {
             (build.of.info.first, build.of.info.end) = (first, end);
         });
     }
-    for (source_track, number) in [(1, 0), (2, 0), (3, 13), (255, 13)] {
+    for (source_track, number) in [(1, 0), (2, 0), (3, 13), (255, 13), (256, 13), (257, 13), (65_535, 13)] {
         limits.both(DSD, number, |build| {
             build.of.tracks = vec![track(0, 1), track(0, 1)];
             build.of.info.source_track = source_track;
+        });
+    }
+    // It is the only one in the range, or the only one outside, or one past the last.
+    for count in [255, 256, 257, 65_535] {
+        for source_track in [255, 256, 257, 65_535].into_iter().filter(|&number| number <= count) {
+            for (others, own, number) in [(1, 0, 0), (0, 1, 14)] {
+                limits.both(DSD, number, |build| {
+                    build.of.tracks = vec![track(others, 1); count.into()];
+                    build.of.tracks[usize::from(source_track) - 1] = track(own, 1);
+                    let info = &mut build.of.info;
+                    (info.on, info.source_track, info.source_track_markers) = (true, source_track, true);
+                });
+            }
+        }
+        limits.both(DSD, 13, |build| {
+            build.of.tracks = vec![track(0, 1); usize::from(count) - 1];
+            build.of.info.source_track = count;
         });
     }
     // The range is 2 to 4.
@@ -138,6 +156,19 @@ fn edited_master(limits: &mut Limits) {
     }
     limits.both(MASTER, 16, |build| set_layout(build, 3, 0));
     limits.both(MASTER, 17, |build| build.of.tracks.clear());
+    let in_a_row = |count: u32| (0..count).map(|number| track(75 * number, 75)).collect::<Vec<TrackOf>>();
+    for (context, count, number) in [(DSD, 255, 0), (MASTER, 255, 0), (DSD, 256, 0), (MASTER, 256, 17)] {
+        limits.both(context, number, |build| build.of.tracks = in_a_row(count));
+    }
+    // The last of them too short, or overlapping, or ending late.
+    for (number, early, duration) in [(18, 0, 74), (19, 1, 75), (20, 0, 1_152_000)] {
+        for (count, number) in [(255, number), (256, 17)] {
+            limits.both(MASTER, number, |build| {
+                build.of.tracks = in_a_row(count - 1);
+                build.of.tracks.push(track(75 * (count - 1) - early, duration));
+            });
+        }
+    }
     for (durations, number) in [([75, 75], 0), ([74, 75], 18), ([75, 74], 18), ([0, 0], 18)] {
         limits.both(MASTER, number, |build| build.of.tracks = vec![track(0, durations[0]), track(75, durations[1])]);
     }

@@ -1,7 +1,7 @@
 //! Builds: what stands before and after the sound of a whole file, and how long the sound is, with a few reads of the file;
 //! or the refusal.
 
-mod counts;
+pub mod counts;
 pub mod draw;
 mod figures;
 pub mod fixed;
@@ -38,12 +38,12 @@ pub struct Case {
 
 impl Case {
     /// A case without windows.
-    fn of(build: checks::Case) -> Case {
+    pub fn of(build: checks::Case) -> Case {
         Case { build, figures: None, seed: 0, ours: None, asked: Asked::default() }
     }
 
     /// The case with a few windows, if our library accepts the build.
-    fn with_windows(mut self, random: &mut Random) -> Case {
+    pub fn with_windows(mut self, random: &mut Random) -> Case {
         self.seed = random.between(0, 255);
         self.ours = reads::file::File::of(&self.build, self.seed, &[]).ok();
         if let Some(file) = &self.ours {

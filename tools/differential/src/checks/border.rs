@@ -25,7 +25,7 @@ struct Field {
 const BORDER: [Field; 9] = [
     Field { first: 2, count: 1, most: 255, number: 7 },
     Field { first: 3, count: 1, most: 3, number: 8 },
-    Field { first: 21, count: 1, most: 255, number: 13 },
+    Field { first: 21, count: 1, most: 65_535, number: 13 },
     Field { first: 47, count: 1, most: 255, number: 24 },
     Field { first: 8, count: 6, most: 65_535, number: 26 },
     Field { first: 52, count: 5, most: 4, number: 28 },
@@ -245,14 +245,14 @@ fn draw_words(random: &mut Random, words: &[u32]) -> Beside {
 
 /// The largest value of a field that is refused by a later check, unless something comes before.
 fn draw_largest(random: &mut Random, case: &Case, words: &[u32], wanted: Verdict) -> Beside {
-    let (place, number) = match random.between(0, 2) {
+    let (place, largest, number) = match random.between(0, 2) {
         // Not of an edited master, nor if there is that track.
-        0 if !case.edited_master && case.of.tracks.len() < MOST_TRACKS => (21, 13),
-        1 => (47, 24),
-        _ => (2, 7),
+        0 if !case.edited_master && case.of.tracks.len() < MOST_TRACKS => (21, 65_535, 13),
+        1 => (47, 255, 24),
+        _ => (2, 255, 7),
     };
     let mut words = words.to_vec();
-    words[place] = 255;
+    words[place] = largest;
     if place == 47 {
         words[46] = 1;
     }

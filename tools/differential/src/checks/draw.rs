@@ -7,7 +7,7 @@ use library::text::Extent;
 use super::faults::{self, Fault};
 use super::fixed::{shown, LAST};
 use super::{layout_of, Beyond, Caller, Case, Comments, Lengths, Place, LONGEST_TEXT, USUAL};
-use super::{MOST_CALLERS, MOST_TRACKS};
+use super::{MOST_CALLERS, MOST_MASTER_TRACKS};
 use crate::markers::draw::{self as of, draw_numbers, last_number, percent, LAST_FRAME, LAYOUTS};
 use crate::markers::TrackOf;
 use crate::random::Random;
@@ -300,7 +300,7 @@ fn go_beyond(random: &mut Random, case: &mut Case) {
     case.beyond.push(beyond);
 }
 
-/// More than a limit of 1.
+/// More than a limit of 1, or more tracks than an edited master can have.
 fn too_much(random: &mut Random, case: &mut Case) {
     let of = &mut case.of;
     match random.between(0, 3) {
@@ -308,7 +308,7 @@ fn too_much(random: &mut Random, case: &mut Case) {
             let track = of.tracks.last().copied();
             let title = Extent { start: 0, length: 0 };
             let track = track.unwrap_or(TrackOf { start: 0, duration: 1, title, untitled: true });
-            of.tracks.resize(MOST_TRACKS + 1, track);
+            of.tracks.resize(MOST_MASTER_TRACKS + 1, track);
         }
         1 => case.callers.resize(MOST_CALLERS + 1, Caller { name: *b"AAAA", data: Vec::new() }),
         2 => {

@@ -95,7 +95,7 @@ fn no_title(case: &Case) -> Extent {
 fn source(random: &mut Random, case: &mut Case, number: u32, outside: bool) {
     case.of.tracks.truncate(200);
     if number == 13 && outside {
-        let next = case.of.tracks.len() as u8 + 1;
+        let next = case.of.tracks.len() as u16 + 1;
         case.of.info.source_track = random.pick(&[next, next, 255]);
         return;
     }
@@ -111,7 +111,7 @@ fn source(random: &mut Random, case: &mut Case, number: u32, outside: bool) {
     let title = no_title(case);
     let place = if number == 13 { case.of.tracks.len() } else { random.place(case.of.tracks.len() + 1) };
     case.of.tracks.insert(place, TrackOf { start, duration, title, untitled: true });
-    case.of.info.source_track = place as u8 + 1;
+    case.of.info.source_track = place as u16 + 1;
 }
 
 fn master(random: &mut Random, case: &mut Case, number: u32, outside: bool) {

@@ -5,7 +5,7 @@ use library::markers::{ChannelNumbers, Info, Properties, Start, INDEX, OF_TRACK_
 use library::text::{Conversion, Extent, Switches, D2, REPLACE};
 
 use super::{Beyond, Caller, Case, Comments, Lengths, Place, LONGEST_CALLER_DATA, LONGEST_TEXT, USUAL};
-use super::{MOST_CALLERS, MOST_MARKERS, MOST_TRACKS};
+use super::{MOST_CALLERS, MOST_MARKERS, MOST_MASTER_TRACKS, MOST_TRACKS};
 use crate::markers::{self, MarkerOf, TrackOf};
 
 /// The last refusal of a build's inputs.
@@ -67,7 +67,6 @@ pub fn apart(a: u32, b: u32) -> Option<&'static str> {
         (10, 12) => Some("an empty range has no lengths"),
         (13, 14) => Some("14 is of a track that exists"),
         (13 | 14, 15..=23) => Some("13 and 14 are not for an edited master, 15 to 23 for nothing else"),
-        (17, 18..=20) => Some("17: no tracks"),
         (17..=23, 25..=27) => Some("25 to 27 are of an unspecified layout, for which 16 refuses an edited master"),
         (22 | 23, 32 | 33) => Some("32 and 33 are of custom markers, for which 21 refuses an edited master"),
         (23, 31) => Some("31 is of an EMID, which 23 misses"),
@@ -92,12 +91,13 @@ const CONTEXTS: [Context; 4] = [
     Context { dst: true, edited_master: true },
 ];
 
-/// How faults of a pair that is decided by element lie.
+/// How faults of a pair that is decided by element lie; and whether 17 is of no tracks or of too many.
 #[derive(Clone, Copy, PartialEq)]
 enum Form {
     InOrder,
     Turned,
     Same,
+    Many,
 }
 
 /// Stereo, one position, and the original's defaults; an edited master has one track.
@@ -273,7 +273,14 @@ fn faulty(context: Context, faults: &[u32], form: Form) -> Case {
             of.tracks.push(track(0, late));
         }
     }
-    if has(17) {
+    if has(17) && form == Form::Many {
+        // Before the faulty ones as many as an edited master can have.
+        let step = if has(19) { 0 } else { 75 };
+        let count = MOST_MASTER_TRACKS as u32;
+        let before = (0..count).map(|number| track(step * number, 75));
+        let behind = of.tracks.iter().map(|faulty| track(faulty.start + 75 * count, faulty.duration));
+        of.tracks = before.chain(behind).collect();
+    } else if has(17) {
         of.tracks.clear();
     }
     if any(&[21, 32, 33]) {
@@ -316,7 +323,7 @@ fn faulty(context: Context, faults: &[u32], form: Form) -> Case {
     of.custom = match (has(32), has(33), form) {
         (true, true, Form::Same) => vec![marker(outside, BAD)],
         (true, true, Form::Turned) => vec![marker(info.end, BAD), marker(outside, NONE)],
-        (true, true, Form::InOrder) => vec![marker(outside, NONE), marker(info.end, BAD)],
+        (true, true, _) => vec![marker(outside, NONE), marker(info.end, BAD)],
         (true, false, _) => vec![marker(info.end, NONE), marker(outside, NONE)],
         (false, true, _) => vec![marker(info.end, NONE), marker(info.end, BAD)],
         (false, false, _) => Vec::new(),
@@ -397,7 +404,14 @@ fn pairs(cases: &mut Vec<Case>) {
     for a in 1..LAST {
         for b in a + 1..=LAST {
             for context in CONTEXTS.into_iter().filter(|&context| goes(context, a, b)) {
-                cases.push(made(context, &[a, b], Form::InOrder, Part::Pair(a, b)));
+                // Tracks that are not there have no fault.
+                let many = a == 17 && matches!(b, 18..=20);
+                if !many {
+                    cases.push(made(context, &[a, b], Form::InOrder, Part::Pair(a, b)));
+                }
+                if a == 17 || b == 17 {
+                    cases.push(made(context, &[a, b], Form::Many, Part::Pair(a, b)));
+                }
                 // An edited master could not be at fault in the second alone.
                 let edited_master = context.edited_master && !matches!(b, 25..=27 | 32 | 33);
                 cases.push(made(Context { edited_master, ..context }, &[b], Form::InOrder, Part::Left(a, b)));
@@ -430,6 +444,9 @@ fn at_once(cases: &mut Vec<Case>) {
             let left = &faults[from..];
             let first = left.first().copied().unwrap_or(LAST + 1);
             cases.push(made(context, left, Form::InOrder, Part::AtOnce(first)));
+            if left.contains(&17) {
+                cases.push(made(context, left, Form::Many, Part::AtOnce(first)));
+            }
         }
     }
 }
@@ -484,7 +501,7 @@ fn limits(cases: &mut Vec<Case>) {
             for edited_master in [false, true] {
                 let mut case = plain(Context { dst: false, edited_master });
                 change(&mut case);
-                let tracks = edited_master && case.of.tracks.len() > MOST_TRACKS;
+                let tracks = edited_master && case.of.tracks.len() > MOST_MASTER_TRACKS;
                 let original = match (tracks, edited_master && case.of.info.custom_markers) {
                     (true, _) => 17,
                     (false, true) => 21,
@@ -503,10 +520,7 @@ fn limits(cases: &mut Vec<Case>) {
                 set_text(case, place, LONGEST_TEXT + more);
             });
         }
-        add(&|case| {
-            let tracks = (0..(MOST_TRACKS as u32) + more).map(|number| track(75 * number, 75));
-            case.of.tracks = tracks.collect();
-        });
+        add(&|case| case.of.tracks = vec![track(0, 75); MOST_TRACKS + more as usize]);
         add(&|case| case.callers = vec![caller(b"AAAA"); MOST_CALLERS + more as usize]);
         add(&|case| {
             case.of.info.custom_markers = true;

@@ -7,6 +7,8 @@ mod faults;
 pub mod fixed;
 pub mod simplify;
 
+use std::borrow::Cow;
+
 use library::checks::{self as ours, Build, Lent, Verdict};
 use library::checks::{COMT, OFF, ON, SWITCHES, UNSET};
 use library::markers::{Marker, INDEX, OF_TRACK_THEN_ALBUM, PROGRAM_START, UNSPECIFIED};
@@ -16,7 +18,7 @@ use self::counts::Counts;
 use self::fixed::Fixed;
 use crate::hex;
 use crate::markers::draw::LAYOUTS;
-use crate::markers::{self, meant, order};
+use crate::markers::{self, meant, order, LAST_TOLD};
 use crate::original::Answer;
 use crate::random::Random;
 use crate::subject::{Disagreement, Fails, Halt, Subject};
@@ -114,13 +116,16 @@ pub enum Place {
 
 const LOCAL_NAMES: [&str; 5] = ["prop", "sound", "dsti", "diin", "comt"];
 
-// Document 01's limits that the original does not have.
+// Limits that the original does not have.
 const LONGEST_TEXT: u32 = 65_535;
 const LONGEST_CALLER_DATA: usize = 16_777_216;
-const MOST_TRACKS: usize = 255;
+pub const MOST_TRACKS: usize = 65_535;
 const MOST_CALLERS: usize = 255;
 const MOST_MARKERS: usize = 65_535;
-const LONGEST_PLAYTIME: u32 = 1_151_999;
+pub const LONGEST_PLAYTIME: u32 = 1_151_999;
+
+/// Of an edited master (17). The original has it too.
+pub const MOST_MASTER_TRACKS: usize = 255;
 
 impl Beyond {
     /// Our refusal for it, and the first number of the original that is later.
@@ -187,6 +192,17 @@ impl Case {
         }
     }
 
+    /// What the original is told of PROP, DIIN and tracks. The source track of an edited master is not looked at, and a number
+    /// that the original cannot hold is another one then.
+    fn told_of(&self) -> Cow<'_, markers::Case> {
+        if !self.edited_master || self.of.info.source_track <= LAST_TOLD {
+            return Cow::Borrowed(&self.of);
+        }
+        let mut of = self.of.clone();
+        of.info.source_track = LAST_TOLD;
+        Cow::Owned(of)
+    }
+
     /// The lengths of a DST build.
     fn lengths(&self) -> Vec<u32> {
         let Lengths { more, place, value, ref usual } = self.lengths;
@@ -229,7 +245,7 @@ impl Case {
         } else if comments {
             Some(("1: a long comment", 1))
         } else if self.of.tracks.len() > MOST_TRACKS {
-            Some(("1: more than 255 tracks", 1))
+            Some(("1: more than 65,535 tracks", 1))
         } else if self.callers.len() > MOST_CALLERS {
             Some(("1: more than 255 caller chunks", 1))
         } else if info.custom_markers && self.of.custom.len() > MOST_MARKERS {
@@ -496,7 +512,7 @@ impl Subject for Checks {
 
     fn for_original(case: &Case) -> String {
         let bit = u8::from;
-        let mut lines = case.of.lines();
+        let mut lines = case.told_of().lines();
         // What stands further down holds.
         lines.extend([
             format!("edited_master {}", bit(case.edited_master)),

@@ -197,10 +197,10 @@ fn draw_spans(random: &mut Random, first: u32, playtime: u32) -> Vec<[u32; 2]> {
 }
 
 /// The number of a track that has frames in the range; 0 for none.
-fn draw_source(random: &mut Random, spans: &[[u32; 2]], first: u32, end: u32) -> u8 {
+fn draw_source(random: &mut Random, spans: &[[u32; 2]], first: u32, end: u32) -> u16 {
     let inside = |[start, duration]: [u32; 2]| first.max(start) < end.min(start.saturating_add(duration));
-    let numbers: Vec<u8> =
-        (1..=u8::MAX).zip(spans).filter(|(_, &span)| inside(span)).map(|(number, _)| number).collect();
+    let numbers: Vec<u16> =
+        (1..=u16::MAX).zip(spans).filter(|(_, &span)| inside(span)).map(|(number, _)| number).collect();
     if numbers.is_empty() || !percent(random, 30) {
         return 0;
     }

@@ -1,9 +1,10 @@
 //! Markers and properties: the chunks PROP and DIIN.
 
-mod counts;
+pub mod counts;
 pub mod draw;
 pub mod simplify;
 
+use std::borrow::Cow;
 use std::iter;
 
 use library::markers::{self as ours, ChannelNumbers, Info, Lent, Marker, Properties, Track, INDEX, PROGRAM_START};
@@ -64,6 +65,9 @@ pub struct MarkerOf {
     pub text: Extent,
 }
 
+/// The last source track that the original can be told.
+pub const LAST_TOLD: u16 = 255;
+
 const PROPERTY_NAMES: [&str; 5] = ["fs", "chnl", "cmpr", "abss", "lsco"];
 const INFO_NAMES: [&str; 4] = ["emid", "mark", "diar", "diti"];
 const SOURCE_NAMES: [&str; 3] = ["album", "track", "track_then_album"];
@@ -110,6 +114,23 @@ impl Case {
         let row =
             |marker: &MarkerOf| [marker.frame, marker.kind << 16 | marker.flags, marker.text.start, marker.text.length];
         self.custom.iter().map(row).collect()
+    }
+
+    /// The source track and the tracks as the original is told them. It has a byte for the number: a later track changes places
+    /// with the last that a byte can tell, and one that there is not is 0, which is no track there either. The other tracks do
+    /// not count if there is a source track.
+    fn told_tracks(&self) -> (Option<u32>, Cow<'_, [TrackOf]>) {
+        let tracks = Cow::Borrowed(&self.tracks[..]);
+        match self.info.source_track {
+            0 => (None, tracks),
+            source if source <= LAST_TOLD => (Some(source.into()), tracks),
+            source if usize::from(source) > tracks.len() => (Some(0), tracks),
+            source => {
+                let mut swapped = tracks.into_owned();
+                swapped.swap(usize::from(source) - 1, usize::from(LAST_TOLD) - 1);
+                (Some(LAST_TOLD.into()), Cow::Owned(swapped))
+            }
+        }
     }
 
     /// The case in the original's case language, but for the lengths of DST frames.
@@ -171,9 +192,10 @@ impl Case {
             None => lines.push(format!("{key} none")),
         };
         optional("absolute_start", properties.start.given.then_some(properties.start.frame));
-        optional("source_track", (info.source_track > 0).then_some(info.source_track.into()));
+        let (source_track, tracks) = self.told_tracks();
+        optional("source_track", source_track);
         optional("replacement", replaces.then_some(replacement.into()));
-        for track in &self.tracks {
+        for track in tracks.iter() {
             let title = if track.untitled { "-".into() } else { utf8(self.values(track.title)) };
             lines.push(format!("track {} {} {title}", track.start, track.duration));
         }

@@ -165,7 +165,7 @@ fn without_tracks(case: &Case, gone: Range<usize>) -> Option<Case> {
     simpler.tracks.drain(gone.clone());
     let source = usize::from(case.info.source_track);
     if source > gone.end {
-        simpler.info.source_track -= gone.len() as u8;
+        simpler.info.source_track -= gone.len() as u16;
     } else if source > gone.start {
         return None;
     }
