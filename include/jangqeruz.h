@@ -45,7 +45,7 @@ enum jangqeruz_word {
     JANGQERUZ_WORD_DST_CRC = 18, /* switch: a CRC, DSTC, after each DST frame */
     JANGQERUZ_WORD_DST_INDEX = 19, /* switch: the index, DSTI, of a DST file */
     JANGQERUZ_WORD_DST_INDEX_OFFSET = 20, /* switch: where an entry of the index leads: JANGQERUZ_OFFSET_.. */
-    JANGQERUZ_WORD_SOURCE_TRACK = 21, /* the track that the range is of, from 1 on; 0 for none */
+    JANGQERUZ_WORD_SOURCE_TRACK = 21, /* the track that the range is of, 1 to 65,535; 0 for none */
     JANGQERUZ_WORD_EDITED_MASTER = 22, /* switch: an edited master */
     JANGQERUZ_WORD_EDITED_MASTER_INFO = 23, /* switch: DIIN */
     JANGQERUZ_WORD_EDITED_MASTER_ID_WRITTEN = 24, /* switch: EMID in DIIN */
@@ -199,7 +199,7 @@ enum {
 /* The numbers of the refusals. */
 enum jangqeruz_refusal {
     JANGQERUZ_ACCEPTED = 0,
-    /* A text (EMID and marker texts included) exceeds 65,535 values, or tracks or caller chunks exceed 255, custom
+    /* A text (EMID and marker texts included) exceeds 65,535 values, or tracks exceed 65,535, caller chunks 255, custom
      * markers 65,535, or one caller chunk 16,777,216 bytes.
      */
     JANGQERUZ_REFUSED_LIMITS = 1,
@@ -221,7 +221,7 @@ enum jangqeruz_refusal {
     JANGQERUZ_REFUSED_SOURCE_TRACK_OUTSIDE = 14, /* It doesn't overlap the range. */
     JANGQERUZ_REFUSED_MASTER_RANGE = 15, /* Edited master (15 to 23): the range isn't 0 to playtime. */
     JANGQERUZ_REFUSED_MASTER_LAYOUT = 16, /* Unspecified layout. */
-    JANGQERUZ_REFUSED_MASTER_TRACKS = 17, /* No tracks. */
+    JANGQERUZ_REFUSED_MASTER_TRACKS = 17, /* No tracks, or more than 255. */
     JANGQERUZ_REFUSED_TRACK_SHORT = 18, /* A track is under 75 frames; detail, the first one's number. */
     JANGQERUZ_REFUSED_MASTER_SPANS = 19, /* Spans empty, out of order or overlapping. */
     JANGQERUZ_REFUSED_MASTER_END = 20, /* The last ends after 1,151,999. */
@@ -424,7 +424,7 @@ size_t jangqeruz_diin(
     uint32_t first,
     uint32_t end,
     uint32_t playtime,
-    uint8_t source_track,
+    uint16_t source_track,
     bool source_track_markers,
     bool clipped_program,
     bool titles,

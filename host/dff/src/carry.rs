@@ -9,8 +9,9 @@ mod texts;
 mod top;
 
 use crate::Fault;
+use crate::commands::faults::Faults;
 use crate::sources::dff::DffSource;
-use jangqeruz::Options;
+use jangqeruz::{Options, Track};
 use std::ops::Range;
 use texts::Pads;
 
@@ -32,6 +33,8 @@ pub const DROP_COMMENTS: &str = "\n  --drop-comments leaves all comments out";
 /// What was carried over.
 pub struct Carried {
     pub options: Options,
+    /// Those that make the markers, if there are more than can be given.
+    pub tracks: Vec<Track>,
     /// What is written otherwise than the file has it.
     pub notes: Vec<String>,
 }
@@ -41,19 +44,18 @@ pub fn carry(source: &DffSource, span: Range<u32>, dropped: Dropped) -> Result<C
     let mut options = Options { edited_master_id: None, custom_markers: Some(vec![]), ..Options::default() };
     options.text_replacement = None;
     let pads = Pads::default();
-    let mut carrier = Carrier { source, span, dropped, options, pads, start: 0, faults: vec![], notes: vec![] };
+    let (tracks, faults, notes) = (vec![], Faults::default(), vec![]);
+    let mut carrier = Carrier { source, span, dropped, options, tracks, pads, start: 0, faults, notes };
     carrier.property();
     carrier.info();
     carrier.comments();
     carrier.sound()?;
     carrier.top()?;
     carrier.pads();
-    let Carrier { options, faults, notes, .. } = carrier;
-    let path = source.file().path().display().to_string();
-    let faults = faults.into_iter().map(|words| Fault::File(words).at(&path));
-    match Fault::all(faults.collect()) {
+    let Carrier { options, tracks, faults, notes, .. } = carrier;
+    match faults.told(source.file().path()) {
         Some(fault) => Err(fault),
-        None => Ok(Carried { options, notes }),
+        None => Ok(Carried { options, tracks, notes }),
     }
 }
 
@@ -62,16 +64,17 @@ struct Carrier<'s> {
     span: Range<u32>,
     dropped: Dropped,
     options: Options,
+    tracks: Vec<Track>,
     pads: Pads,
     /// The frame of the day at which the file starts, 0 if it doesn't tell.
     start: u64,
-    faults: Vec<String>,
+    faults: Faults,
     notes: Vec<String>,
 }
 
 impl Carrier<'_> {
     fn fault(&mut self, place: u64, words: impl std::fmt::Display) {
-        self.faults.push(format!("at {place}: {words}"));
+        self.faults.push(|| format!("at {place}: {words}"));
     }
 
     fn note(&mut self, words: String) {

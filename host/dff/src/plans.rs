@@ -1,5 +1,7 @@
 //! The files of a manifest, ready to be made: sources opened, options in the library's types, verdicts asked for.
 
+mod causes;
+
 use crate::Fault;
 use crate::carry::Numbered;
 use crate::folder::{Folder, told};
@@ -102,22 +104,15 @@ impl Plan {
         self.notes.iter().map(|note| format!("{}: note: {note}", self.label))
     }
 
-    /// The refusal, with the range where that is refused.
+    /// The refusal, with what it is about.
     fn refused(&self, error: &BuildError) -> Fault {
-        let Area { first, end, playtime, .. } = self.area;
-        let of_range = match error {
-            BuildError::Refused(refusal) => matches!(refusal.number(), 11 | 12) || first > end && refusal.number() == 9,
-            _ => false,
+        let cause = match error {
+            BuildError::Refused(refusal) => causes::cause(refusal, &self.area, &self.options, self.source.frames()),
+            _ => None,
         };
-        let fault = refused(&self.label, error);
-        match fault {
-            Fault::Refused(text) if of_range => {
-                let frames = self.source.frames();
-                let other = if playtime == frames { String::new() } else { format!(", the playtime is {playtime}") };
-                let cause = format!("  the source has {}, the range is {first} to {end}{other}", counted(frames));
-                Fault::Refused(format!("{text}\n{cause}"))
-            }
-            fault => fault,
+        match (refused(&self.label, error), cause) {
+            (Fault::Refused(text), Some(cause)) => Fault::Refused(format!("{text}\n  {cause}")),
+            (fault, _) => fault,
         }
     }
 

@@ -46,7 +46,8 @@ fn refused() -> Vec<(u32, String)> {
         (1, format!("{DSD}\n[[file.track]]\nstart = 0\nduration = 1\ntitle = '{}'", "a".repeat(65_536))),
         (1, format!("{DSD}\nalbum = {{ artist = '{}' }}", "a".repeat(65_536))),
         (1, format!("{DSD}\nedited_master_id = '{}'", "a".repeat(65_536))),
-        (1, format!("{DSD}\n{}", tracks(256))),
+        (1, format!("{DSD}\n{}", tracks(65_536))),
+        (1, format!("{DSD}\n{MASTER}\n{}", tracks(65_536))),
         (1, format!("{DSD}\n{}", chunks(256))),
         (1, format!("{DSD}\n{}", markers(65_536))),
         (1, format!("{DSD}\n[[file.chunk]]\nname = 'ABCD'\npath = 'larger'")),
@@ -74,11 +75,14 @@ fn refused() -> Vec<(u32, String)> {
         (12, format!("{DST}\nrange = {{ from = 1, to = 1 }}")),
         (13, format!("{DSD}\nsource_track = 1")),
         (13, format!("{DSD}\nsource_track = 2\n{TRACK}")),
+        (13, format!("{DSD}\nsource_track = 257\n{TRACK}")),
+        (13, format!("{DSD}\nsource_track = 65537\n{TRACK}")),
         (13, format!("{DSD}\nsource_track = 4294967295\n{TRACK}")),
         (14, format!("{DSD}\nsource_track = 1\n[[file.track]]\nstart = 1\nduration = 75")),
         (15, format!("{DSD}\nedited_master = true\nplaytime = 75\n{TRACK}")),
         (16, format!("{DSD}\nlayout = 'unspecified'\n{MASTER}\n{TRACK}")),
         (17, format!("{DSD}\n{MASTER}")),
+        (17, format!("{DSD}\n{MASTER}\n{}", tracks(256))),
         (18, format!("{DSD}\n{MASTER}\n{TRACK}\n[[file.track]]\nstart = 75\nduration = 74")),
         (19, format!("{DSD}\n{MASTER}\n{TRACK}\n[[file.track]]\nstart = 74\nduration = 75")),
         (20, format!("{DSD}\n{MASTER}\n[[file.track]]\nstart = 0\nduration = 1152000")),
@@ -126,6 +130,9 @@ fn accepted() -> Vec<String> {
         format!("{DSD}\n[[file.track]]\nstart = 0\nduration = 1\ntitle = '{}'", "a".repeat(65_535)),
         format!("{DSD}\nedited_master_id = '{}'", "a".repeat(65_535)),
         format!("{DSD}\n{}", tracks(255)),
+        format!("{DSD}\n{}", tracks(256)),
+        format!("{DSD}\n{}", tracks(65_535)),
+        format!("{DSD}\nsource_track = 65535\n{}", tracks(65_535)),
         format!("{DSD}\n{}", chunks(255)),
         format!("{DSD}\n{}", markers(65_535)),
         format!("{DSD}\n[[file.chunk]]\nname = 'ABCD'\npath = 'chunk'"),
@@ -169,7 +176,7 @@ fn comment(one: &str, other: &str) -> String {
 }
 
 fn tracks(count: usize) -> String {
-    "[[file.track]]\nstart = 0\nduration = 1\n".repeat(count)
+    format!("track = [{}]", "{start=0,duration=1},".repeat(count))
 }
 
 fn chunks(count: usize) -> String {

@@ -54,6 +54,7 @@ fn in_words() {
         "\"DST \", \"DST Encoded\"\n",
         "8 bytes: 01:00:00:01\n",
         "2 bytes: 0 (stereo)\n",
+        "\n  DIIN at 184, 104 bytes: 2 markers\n",
         ": 01:00:00:01 track start, flags 0x0003, \"one\"\n",
         ": 01:00:00:03 track stop\n",
         ": \"Ä\"\n",
@@ -87,6 +88,7 @@ fn as_json() {
         list.iter().find(|chunk| chunk["name"] == name).unwrap().clone()
     };
     let info = find(form, "DIIN");
+    assert_eq!(info["value"], json!({ "markers": 2 }));
     assert_eq!(find(&info, "EMID")["value"], json!({ "text": "id" }));
     assert_eq!(find(&info, "DIAR")["value"], json!({ "text": "Ä" }));
     let marker = find(&info, "MARK");

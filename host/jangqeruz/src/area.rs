@@ -50,7 +50,7 @@ pub struct Area {
     pub first: u32,
     /// One past the range's last frame.
     pub end: u32,
-    /// The area's tracks, in order.
+    /// The area's tracks, in order: at most 65,535, of an edited master 1 to 255.
     pub tracks: Vec<Track>,
 }
 

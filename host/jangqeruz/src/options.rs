@@ -22,7 +22,8 @@ pub struct Options {
     pub dst_index: bool,
     /// What the index leads to. `ChunkHeader` by default.
     pub dst_index_offset: IndexOffset,
-    /// The number of the track that the range is of, from 1 on; 0 for none.
+    /// The number of the track that the range is of, 1 to 65,535; 0 for none. One that is greater, or past the tracks,
+    /// is refused (13).
     pub source_track: u32,
     /// The file is an edited master, of which the format asks more (refusals 15 to 23).
     pub edited_master: bool,

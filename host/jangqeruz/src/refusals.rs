@@ -5,8 +5,8 @@
 /// Why a build or a read is refused. Each has its number, the words of the rule, and what to do about it.
 #[derive(Clone, Copy, Debug, PartialEq, Eq, Hash)]
 pub enum Refusal {
-    /// 1: A text (EMID and marker texts included) exceeds 65,535 values, or tracks or caller chunks exceed 255, custom
-    /// markers 65,535, or one caller chunk 16,777,216 bytes.
+    /// 1: A text (EMID and marker texts included) exceeds 65,535 values, or tracks exceed 65,535, caller chunks 255,
+    /// custom markers 65,535, or one caller chunk 16,777,216 bytes.
     Limits,
     /// 2: A stretch runs outside its pool.
     OutsidePool,
@@ -38,7 +38,7 @@ pub enum Refusal {
     MasterRange,
     /// 16: Unspecified layout.
     MasterLayout,
-    /// 17: No tracks.
+    /// 17: No tracks, or more than 255.
     MasterTracks,
     /// 18: A track is under 75 frames; detail, the first one's number.
     TrackShort(u64),
@@ -266,8 +266,8 @@ impl Refusal {
     pub(crate) fn told(&self) -> Told {
         match self {
             Refusal::Limits => Told {
-                words: "A text (EMID and marker texts included) exceeds 65,535 values, or tracks or caller chunks exceed 255, custom markers 65,535, or one caller chunk 16,777,216 bytes.",
-                remedy: "Shorten the text or the chunk, or give fewer: at most 65,535 characters a text, 255 tracks, 255 caller chunks of at most 16,777,216 bytes each, and 65,535 custom markers.",
+                words: "A text (EMID and marker texts included) exceeds 65,535 values, or tracks exceed 65,535, caller chunks 255, custom markers 65,535, or one caller chunk 16,777,216 bytes.",
+                remedy: "Shorten the text or the chunk, or give fewer: at most 65,535 characters a text, 65,535 tracks, 65,535 custom markers, and 255 caller chunks of at most 16,777,216 bytes each.",
                 definition: "crates/rules/specs/Limits.antt: limitFaults",
             },
             Refusal::OutsidePool => Told {
@@ -327,7 +327,7 @@ impl Refusal {
             },
             Refusal::SourceTrack => Told {
                 words: "No such source track (13 and 14 not for an edited master).",
-                remedy: "Give the number of one of the tracks, which count from 1, or 0 for none.",
+                remedy: "Give the number of one of the tracks, which count from 1 to 65,535 at most, or 0 for none.",
                 definition: "crates/area_rules/specs/Master.antt: sourceFault; crates/words/specs/Border.antt: fieldFaults",
             },
             Refusal::SourceTrackOutside => Told {
@@ -346,8 +346,8 @@ impl Refusal {
                 definition: "crates/area_rules/specs/Master.antt: masterAreaFault",
             },
             Refusal::MasterTracks => Told {
-                words: "No tracks.",
-                remedy: "Give an edited master its tracks, or turn edited_master off.",
+                words: "No tracks, or more than 255.",
+                remedy: "Give an edited master 1 to 255 tracks: join some of them or make several files. Or turn edited_master off, which allows none and up to 65,535.",
                 definition: "crates/area_rules/specs/Master.antt: masterAreaFault",
             },
             Refusal::TrackShort(_) => Told {

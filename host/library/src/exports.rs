@@ -122,7 +122,7 @@ unsafe extern "C" {
         first: u32,
         end: u32,
         playtime: u32,
-        source_track: u8,
+        source_track: u16,
         source_track_markers: bool,
         clipped_program: bool,
         titles: bool,

@@ -74,8 +74,8 @@ pub struct Info {
     pub first: u32,
     pub end: u32,
     pub playtime: u32,
-    /// 0 for none.
-    pub source_track: u8,
+    /// 1 to 65,535; 0 for none.
+    pub source_track: u16,
     pub source_track_markers: bool,
     pub clipped_program: bool,
     pub titles: bool,

@@ -37,7 +37,7 @@ pub const WORD_DST_CRC: usize = 18;
 pub const WORD_DST_INDEX: usize = 19;
 /// Switch: where an entry of the index leads.
 pub const WORD_DST_INDEX_OFFSET: usize = 20;
-/// The track that the range is of, from 1 on; 0 for none.
+/// The track that the range is of, 1 to 65,535; 0 for none.
 pub const WORD_SOURCE_TRACK: usize = 21;
 /// Switch: an edited master.
 pub const WORD_EDITED_MASTER: usize = 22;

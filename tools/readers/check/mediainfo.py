@@ -1,6 +1,7 @@
 """mediainfo's trace: it has every chunk at its place."""
 
 import re
+from bisect import bisect_left
 
 from given import time
 from tools import run
@@ -63,9 +64,12 @@ def _complaints(form, lines, findings):
 def _times(given, form, lines, findings):
     """The values of ABSS and of MARK."""
     values = [(int(match[1], 16), match[2].decode(), match[3]) for match in map(VALUE.match, lines) if match]
+    values.sort(key=lambda value: value[0])
+    places = [place for place, _, _ in values]
 
     def inside(chunk):
-        return {key: value for place, key, value in values if chunk.data_place <= place < chunk.end}
+        start, end = bisect_left(places, chunk.data_place), bisect_left(places, chunk.end)
+        return {key: value for _, key, value in values[start:end]}
 
     def clock(numbers):
         return dict(zip(["hours", "minutes", "seconds", "samples"], numbers))

@@ -3,7 +3,7 @@
 use super::{Carrier, DROP_MARKERS};
 use crate::sources::Sound;
 use crate::sources::dff::RATE;
-use jangqeruz::{Marker, MarkerKind};
+use jangqeruz::{Marker, MarkerKind, Track};
 use walk::Field;
 
 /// The bytes of MARK before its text's count.
@@ -11,6 +11,9 @@ const MARK_HEAD: u64 = 18;
 
 /// The kind of a marker that stops a track.
 const STOP: u16 = 1;
+
+/// The most markers that a build is given, and the most tracks (refusal 1). Tracks make up to twice as many markers.
+const MOST_GIVEN: usize = 65_535;
 
 impl Carrier<'_> {
     pub(super) fn markers(&mut self) {
@@ -34,6 +37,13 @@ impl Carrier<'_> {
         }
         if outside > 0 {
             self.note(format!("{outside} of {} markers are outside the span and left out", markers.len()));
+        }
+        if list.len() > MOST_GIVEN
+            && let Some(tracks) = tracks_of(&list).filter(|tracks| tracks.len() <= MOST_GIVEN)
+        {
+            (self.tracks, self.options.marker_titles) = (tracks, true);
+            self.options.custom_markers = None;
+            return;
         }
         self.options.custom_markers = Some(list);
     }
@@ -88,6 +98,38 @@ impl Carrier<'_> {
             Some(_) => Place::None,
         }
     }
+}
+
+/// The tracks that make just these markers in a file of all their frames; none if no tracks do.
+fn tracks_of(markers: &[Marker]) -> Option<Vec<Track>> {
+    let plain = |marker: &Marker| marker.track_flags == 0 && marker.text.is_empty();
+    let (program, markers) = markers.split_first()?;
+    if program.kind != MarkerKind::ProgramStart || program.frame != 0 || !plain(program) {
+        return None;
+    }
+    let mut tracks: Vec<Track> = vec![];
+    let (mut open, mut last) = (false, 0);
+    for marker in markers {
+        let frames = marker.frame.checked_sub(last).filter(|frames| *frames > 0);
+        match (marker.kind, tracks.last_mut()) {
+            (MarkerKind::TrackStop, Some(track)) if open && plain(marker) => {
+                (track.duration, open) = (frames?, false);
+            }
+            (MarkerKind::TrackStart, track) if marker.track_flags == 0 => {
+                match track {
+                    Some(track) if open => track.duration = frames?,
+                    Some(_) => drop(frames?), // where a track starts, the one before makes no stop
+                    None => {}
+                }
+                let title = marker.text.iter().map(|&byte| char::from(byte)).collect();
+                tracks.push(Track { start: marker.frame, duration: 0, title });
+                open = true;
+            }
+            _ => return None,
+        }
+        last = marker.frame;
+    }
+    (!open).then_some(tracks)
 }
 
 enum Place {

@@ -32,11 +32,11 @@ pub fn run(args: CutArgs, ui: &Ui) -> Result<(), Fault> {
     let span = span(&args, &source)?;
     source.whole()?;
     let dropped = Dropped { crcs: args.drop_crc, markers: args.drop_markers, comments: args.drop_comments };
-    let Carried { options, notes } = carry(&source, span.clone(), dropped)?;
+    let Carried { options, tracks, notes } = carry(&source, span.clone(), dropped)?;
     let source = Span::new(source, span);
     let (kind, channels, frames) = (source.kind(), source.channels(), source.frames());
     let layout = source.layout()?.map_or(Layout::Unspecified, |(layout, _)| layout);
-    let area = Area::new(kind, channels, layout, frames);
+    let area = Area { tracks, ..Area::new(kind, channels, layout, frames) };
     let lengths = source.lengths(0..frames);
     let label = args.input.display().to_string();
     let file = File::build(&area, &options, &lengths, source).map_err(|error| match error {
@@ -74,7 +74,12 @@ fn not_again(label: &str, refusal: Refusal, area: &Area, options: &Options, leng
     let hint = if helps(true, false) {
         DROP_COMMENTS.into()
     } else if helps(false, true) {
-        DROP_MARKERS.into()
+        let count = options.custom_markers.as_ref().map_or(0, Vec::len);
+        let shorter = match refusal {
+            Refusal::Limits => format!("\n  {count} markers are in the span; --from and --to give a shorter one"),
+            _ => String::new(),
+        };
+        format!("{shorter}{DROP_MARKERS}")
     } else if helps(true, true) {
         format!("{DROP_COMMENTS}{DROP_MARKERS}")
     } else if refusal.number() == Refusal::Playtime.number() {

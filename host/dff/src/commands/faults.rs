@@ -33,6 +33,10 @@ impl Faults {
         }
     }
 
+    pub fn is_empty(&self) -> bool {
+        self.lines.is_empty()
+    }
+
     pub fn extend(&mut self, others: Faults) {
         others.lines.into_iter().for_each(|line| self.push(|| line));
         self.more = self.more.saturating_add(others.more);

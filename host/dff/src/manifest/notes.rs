@@ -3,6 +3,9 @@
 use super::entries::{Entry, TextOrFalse};
 use jangqeruz::{Area, ArtistTitleSource, CommentKind, MarkerKind, Options, Track};
 
+/// So many notes on titles of tracks are listed, on markers and on comments too; the others are counted.
+const MOST_LISTED: usize = 20;
+
 /// The notes on a file, in the words that stand behind `note:`.
 pub fn notes(entry: &Entry, area: &Area, options: &Options) -> Vec<String> {
     let info = options.edited_master || options.edited_master_info;
@@ -75,68 +78,98 @@ fn info_texts(area: &Area, options: &Options, notes: &mut Vec<String>) {
         }
     }
     if options.marker_titles {
-        for (number, track) in (1..).zip(&area.tracks).filter(|(number, track)| starts(*number, track, area, options)) {
-            notes.extend(of_text(&format!("title of track {number}"), &track.title, options, false));
-        }
+        let titles = with_start(area, options)
+            .filter_map(|(number, track)| of_text(&format!("title of track {number}"), &track.title, options, false));
+        listed(notes, "titles of tracks", titles);
     }
 }
 
-/// Whether a track has a marker for its start.
-fn starts(number: u32, track: &Track, area: &Area, options: &Options) -> bool {
-    let (start, end) = clipped(track, area);
-    let made = match source_track(options) {
-        Some(source) => options.source_track_markers && source == number,
-        None => start < end && in_order(area) && (whole(area) || options.clipped_program),
-    };
-    made && options.custom_markers.is_none()
+/// Puts the first of many notes on the same into the list, and how many more there are.
+fn listed(notes: &mut Vec<String>, what: &str, mut many: impl Iterator<Item = String>) {
+    notes.extend(many.by_ref().take(MOST_LISTED));
+    match many.count() {
+        0 => {}
+        1 => notes.push(format!("and 1 more note on {what}")),
+        more => notes.push(format!("and {more} more notes on {what}")),
+    }
+}
+
+/// The tracks that have a marker for their start, with their numbers.
+fn with_start<'a>(area: &'a Area, options: &Options) -> impl Iterator<Item = (u32, &'a Track)> {
+    let source = source_track(options);
+    let made = match source {
+        Some(_) => options.source_track_markers,
+        None => disorder(area).is_none() && (whole(area) || options.clipped_program),
+    } && options.custom_markers.is_none();
+    let numbered = (1..).zip(&area.tracks).filter(move |_| made);
+    numbered.filter(move |(number, track)| match source {
+        Some(source) => source == *number,
+        None => is_left(clipped(track, area)),
+    })
 }
 
 fn whole(area: &Area) -> bool {
     area.first == 0 && area.end == area.playtime
 }
 
-fn clipped(track: &Track, area: &Area) -> (u32, u32) {
-    (track.start.max(area.first), track.start.saturating_add(track.duration).min(area.end))
+/// From where to where a track goes.
+fn full(track: &Track) -> (u32, u32) {
+    (track.start, track.start.saturating_add(track.duration))
 }
 
-/// Whether no track begins before the one before it has ended; of the whole playtime also whether none is empty.
-fn in_order(area: &Area) -> bool {
-    let spans = area.tracks.iter().map(|track| (track.start, track.start.saturating_add(track.duration)));
-    let unclipped = spans.collect::<Vec<_>>();
-    let mut clipped: Vec<_> = area.tracks.iter().map(|track| clipped(track, area)).collect();
-    clipped.retain(|(start, end)| start < end);
-    let ordered = |spans: &[(u32, u32)]| spans.windows(2).all(|pair| matches!(pair, [one, next] if one.1 <= next.0));
-    let full = unclipped.iter().all(|(start, end)| start < end) && ordered(&unclipped);
-    ordered(&clipped) && (full || !whole(area))
+/// What is left of a track in the range.
+fn clipped(track: &Track, area: &Area) -> (u32, u32) {
+    let (start, end) = full(track);
+    (start.max(area.first), end.min(area.end))
+}
+
+fn is_left((start, end): (u32, u32)) -> bool {
+    start < end
+}
+
+/// The number of the first track that begins before the one before it has ended; of the whole playtime, also of the
+/// first that is empty. Of a part only what is left of the tracks counts.
+fn disorder(area: &Area) -> Option<u32> {
+    let mut last = 0;
+    let at_fault = |(_, track): &(u32, &Track)| {
+        let span = if whole(area) { full(track) } else { clipped(track, area) };
+        if !is_left(span) {
+            return whole(area);
+        }
+        let early = span.0 < last;
+        last = span.1;
+        early
+    };
+    (1..).zip(&area.tracks).find(at_fault).map(|(number, _)| number)
 }
 
 fn markers(area: &Area, options: &Options, notes: &mut Vec<String>) {
-    for (number, marker) in (1..).zip(options.custom_markers.iter().flatten()) {
-        if marker.kind != MarkerKind::TrackStart && marker.track_flags != 0 {
-            notes.push(format!("marker {number} is no track-start, so its track_flags are written as 0"));
-        }
-    }
+    let given = (1..).zip(options.custom_markers.iter().flatten());
+    let flagged = given.filter(|(_, marker)| marker.kind != MarkerKind::TrackStart && marker.track_flags != 0);
+    let idle = flagged
+        .map(|(number, _): (u32, _)| format!("marker {number} is no track-start, so its track_flags are written as 0"));
+    listed(notes, "markers", idle);
     let of_tracks = options.custom_markers.is_none() && source_track(options).is_none() && !area.tracks.is_empty();
     if !of_tracks || !whole(area) && !options.clipped_program {
         return;
     }
-    if !in_order(area) {
-        notes.push("tracks are empty, overlap or are out of order, so they make no markers".to_string());
-    } else if area.tracks.iter().map(|track| clipped(track, area)).all(|(start, end)| start >= end) {
+    if let Some(number) = disorder(area) {
+        let words = "tracks are empty, overlap or are out of order, so they make no markers";
+        notes.push(format!("{words}; the first of these is track {number}"));
+    } else if !area.tracks.iter().any(|track| is_left(clipped(track, area))) {
         notes.push("nothing of the tracks is in the range, so they make no markers".to_string());
     }
 }
 
 fn comments(options: &Options, notes: &mut Vec<String>) {
-    for (number, comment) in (1..).zip(&options.comments) {
+    let each = (1..).zip(&options.comments).flat_map(|(number, comment): (u32, _)| {
         let what = format!("comment {number}");
-        let note = of_text(&what, &comment.text, options, !options.empty_text);
         let left_out = !options.empty_text && passed(&comment.text, options) == 0;
-        notes.extend(note);
-        if comment.kind == CommentKind::General && comment.reference != 0 && !left_out {
-            notes.push(format!("{what} is a general one, so its reference is written as 0"));
-        }
-    }
+        let idle = comment.kind == CommentKind::General && comment.reference != 0 && !left_out;
+        let reference = idle.then(|| format!("{what} is a general one, so its reference is written as 0"));
+        of_text(&what, &comment.text, options, !options.empty_text).into_iter().chain(reference)
+    });
+    listed(notes, "comments", each);
 }
 
 /// The note on a text that isn't written as it is; with `skipped`, on one that comes out empty and is left out.

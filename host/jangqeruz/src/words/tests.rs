@@ -75,6 +75,7 @@ fn words_of_dst() {
 #[test]
 fn words_of_information() {
     of_options(|o| o.source_track = 256, &[(21, 256)]);
+    of_options(|o| o.source_track = 65_537, &[(21, 65_537)]);
     of_options(|o| o.edited_master = true, &[(22, 1)]);
     of_options(|o| o.edited_master_info = true, &[(23, 1)]);
     of_options(|o| o.edited_master_id = None, &[(24, 0)]);

@@ -59,7 +59,8 @@ pub fn area(random: &mut Random) -> Area {
         }
     }
     let mut at = 0;
-    let tracks = random.list(4, |random| {
+    let most = if random.once_in(100) { 600 } else { 4 };
+    let tracks = random.list(most, |random| {
         let start = if random.once_in(20) { number(random, 300) } else { at };
         let duration = number(random, 100);
         at = start.saturating_add(duration);

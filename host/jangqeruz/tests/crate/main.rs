@@ -10,3 +10,4 @@ mod recording;
 mod refused;
 mod sources;
 mod table;
+mod tracks;

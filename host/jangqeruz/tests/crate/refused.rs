@@ -94,8 +94,10 @@ fn limits() {
     refused(1, plain(), |g| g.options.custom_markers = Some(vec![marker(0, &long(65_536))]));
     refused(1, plain(), |g| g.options.comments = vec![Comment { text: long(65_536), ..comment() }]);
     refused(1, plain(), |g| g.area.tracks = vec![Track { title: long(65_536), ..track(0, 75) }]);
-    accepted(plain(), |g| g.area.tracks = vec![track(0, 75); 255]);
-    refused(1, plain(), |g| g.area.tracks = vec![track(0, 75); 256]);
+    for count in [255, 256, 65_535] {
+        accepted(plain(), |g| g.area.tracks = vec![track(0, 75); count]);
+    }
+    refused(1, plain(), |g| g.area.tracks = vec![track(0, 75); 65_536]);
     accepted(plain(), |g| g.options.chunks = vec![chunk(b"ABCD", 1); 255]);
     refused(1, plain(), |g| g.options.chunks = vec![chunk(b"ABCD", 1); 256]);
     accepted(plain(), |g| g.options.chunks = vec![chunk(b"ABCD", 16_777_216)]);
@@ -137,7 +139,7 @@ fn areas() {
 fn source_tracks() {
     let with = |g: &mut Given, number| (g.area.tracks, g.options.source_track) = (vec![track(0, 75)], number);
     accepted(plain(), |g| with(g, 1));
-    for number in [2, 255, 256, 257, u32::MAX] {
+    for number in [2, 255, 256, 257, 65_535, 65_536, 65_537, u32::MAX] {
         refused(13, plain(), |g| with(g, number));
     }
     refused(14, plain(), |g| {
@@ -152,6 +154,8 @@ fn edited_masters() {
     refused(15, master(), |g| g.area.first = 1);
     refused(16, master(), |g| g.area.layout = Layout::Unspecified);
     refused(17, master(), |g| g.area.tracks = Vec::new());
+    refused(17, master(), |g| g.area.tracks = vec![track(0, 75); 256]);
+    refused(1, master(), |g| g.area.tracks = vec![track(0, 75); 65_536]);
     refused_with(Refusal::TrackShort(1), &mut master(), |g| g.area.tracks[0].duration = 74);
     refused_with(Refusal::TrackShort(2), &mut master(), |g| g.area.tracks[1].duration = 0);
     refused(19, master(), |g| g.area.tracks[1].start = 74);

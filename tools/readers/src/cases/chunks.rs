@@ -52,6 +52,7 @@ pub fn all() -> Vec<Case> {
             .with(|build| (build.info.clipped_program, build.info.titles) = (true, true))
             .track(0, 6, "one")
             .track(6, 14, "track two"),
+        many_tracks(),
         dsd("comt-before", "two comments, odd and even, before the sound", 3)
             .comment(0, 0, "odd")
             .comment(1, 2, "even"),
@@ -109,4 +110,11 @@ pub fn all() -> Vec<Case> {
             .track(0, 75, "one")
             .track(75, 75, "two"),
     ]
+}
+
+/// A frame each, with a frame between every fourth and the next.
+fn many_tracks() -> Case {
+    let what = "MARKs with the titles of 2,000 tracks, of which every fourth has a stop";
+    let case = Case::dsd("diin-2000-tracks", what, 1, 2_500).d1().info().with(|build| build.info.titles = true);
+    (0..2_000).fold(case, |case, place| case.track(place + place / 4, 1, &format!("Item {}", place + 1)))
 }

@@ -65,6 +65,11 @@ fn told(walk: &Walk, chunk: &Chunk, parent: Option<&[u8; 4]>) -> Option<Told> {
         (Some(b"FRM8"), b"DSTI") => {
             walk.index.as_ref().filter(|index| index.place == chunk.place).and_then(|_| index_told(walk))
         }
+        (Some(b"FRM8"), b"DIIN") => {
+            let markers = walk.markers.len() as u64;
+            let read = walk.chunk(b"DIIN").is_some_and(|info| info.place == chunk.place);
+            (read && markers > 0).then(|| Told::new(json!({ "markers": markers }), count(markers, "marker", "markers")))
+        }
         (Some(b"FRM8"), b"COMT") => of(&walk.comments, chunk).map(|comments| comments_told(comments)),
         (Some(b"PROP"), name) => property(walk, chunk, name),
         (Some(b"DIIN"), name) => info(walk, chunk, name),
