@@ -35,7 +35,7 @@ use Rattle.prop.proofs.PropertyLaws.{property-short}
 use Rattle.master_info.specs.Diin.{infoChunks, hasDiin, diin}
 use Rattle.refusal.specs.Below.{below}
 use Rattle.refusal.specs.Orders.{localRank, times}
-use Rattle.refusal.proofs.OrderLaws.{once-room}
+use Rattle.refusal.proofs.OrderLaws.{local-rank-low, once-room}
 use Rattle.refusal.specs.declared.verdict.Verdict.the-variants.{Accepted}
 use Rattle.build_options.specs.Area.{areaPositions, isDst}
 use Rattle.build_options.specs.Inputs.{Inputs}
@@ -67,31 +67,16 @@ unfolding sum
 sum-low crc [] h = omega arith
 sum-low crc (l ∷ ls) h = omega (arith, unit-low crc l (h 0 (omega arith)), sum-low crc ls (λ k i. h (suc k) (omega arith)))
 
--- what is made of the names on one side is no more than what is made of all
-before-room : (f : LocalChunk → List ℕ) (cs : List LocalChunk) → length (flatMap f (before cs)) ≤ length (flatMap f cs)
-unfolding before flatMap
-before-room f [] = omega arith
-before-room f (c ∷ cs) = rw (length-append) (go (isSound c) (before-room f cs))
+-- what is made of the names on both sides is no more than what is made of all
+sides-room : (f : LocalChunk → List ℕ) (cs : List LocalChunk) → length (flatMap f (before cs)) + length (flatMap f (behind cs)) ≤ length (flatMap f cs)
+unfolding before behind flatMap
+sides-room f [] = omega arith
+sides-room f (c ∷ cs) = rw (length-append) (go (isSound c) (sides-room f cs))
   where
-    go : (t : Bool) → length (flatMap f (before cs)) ≤ length (flatMap f cs) → length (flatMap f (cond t [] (c ∷ before cs))) ≤ length (f c) + length (flatMap f cs)
+    go : (t : Bool) → length (flatMap f (before cs)) + length (flatMap f (behind cs)) ≤ length (flatMap f cs)
+        → length (flatMap f (cond t [] (c ∷ before cs))) + length (flatMap f (cond t cs (behind cs))) ≤ length (f c) + length (flatMap f cs)
     go true h = omega arith
     go false h = rw (length-append) (omega (arith, h))
-
-behind-room : (f : LocalChunk → List ℕ) (cs : List LocalChunk) → length (flatMap f (behind cs)) ≤ length (flatMap f cs)
-unfolding behind flatMap
-behind-room f [] = omega arith
-behind-room f (c ∷ cs) = rw (length-append) (go (isSound c) (behind-room f cs))
-  where
-    go : (t : Bool) → length (flatMap f (behind cs)) ≤ length (flatMap f cs) → length (flatMap f (cond t cs (behind cs))) ≤ length (f c) + length (flatMap f cs)
-    go true h = omega arith
-    go false h = omega (arith, h)
-
-five-names : (c : LocalChunk) → localRank c < 5
-five-names Property = omega arith
-five-names SoundData = omega arith
-five-names DstIndex = omega arith
-five-names EditedMasterInfo = omega arith
-five-names Comments = omega arith
 
 -- the most bytes of each local chunk, by its number: PROP (13 + 194), the sound (none of it here), DSTI, DIIN, COMT
 abbrev localMosts : ℕ → ℕ
@@ -186,7 +171,7 @@ module _ (x : Inputs) (ok : verdict x ≡ Accepted) (sized : Ordered x) where
     -- and all of them, each name once
     locals-low : length (localsBytes (parts x) base (given x)) ≤ 2 ^ 38 + 2 ^ 37
     unfolding below
-    locals-low = omega (arith, once-room localRank (localBytes (parts x) base) localMosts local-low 5 five-names (given x) (named-few x ok))
+    locals-low = omega (arith, once-room localRank (localBytes (parts x) base) localMosts local-low 5 local-rank-low (given x) (named-few x ok))
 
     head-low : (s : Sound) → length (soundHead s (x .area) (x .options .«dst_crc») (x .lengths)) ≤ 30
     unfolding soundHead
@@ -197,7 +182,7 @@ module _ (x : Inputs) (ok : verdict x ≡ Accepted) (sized : Ordered x) where
     unfolding front occupied
     front-low =
         rw (length-append, length-append, length-append, length-chunk (ascii "FVER") version refl, length-be)
-        (omega (arith, before-room (localBytes (parts x) base) (given x), locals-low, head-low (x .area .sound)))
+        (omega (arith, sides-room (localBytes (parts x) base) (given x), locals-low, head-low (x .area .sound)))
 
     caller-low : (row : List ℕ) → getD row 2 0 ≤ 16_777_216 → length (bytes (callerChunk (x .raw) row)) ≤ 16_777_229
     unfolding callerChunk
@@ -218,4 +203,4 @@ module _ (x : Inputs) (ok : verdict x ≡ Accepted) (sized : Ordered x) where
     back-low =
         let n = length (x .callers) / 3 in
         rw (length-append, ← callers-all (x .raw) (x .callers) n (omega arith))
-        (omega (arith, behind-room (localBytes (parts x) base) (given x), locals-low, callers-some n (omega arith), accepted.callers-fit x ok .few))
+        (omega (arith, sides-room (localBytes (parts x) base) (given x), locals-low, callers-some n (omega arith), accepted.callers-fit x ok .few))

@@ -25,7 +25,7 @@ use Rattle.track_markers.proofs.SizeLaws.{ShortText, ShortTexts, ShortTitles, t
 use Rattle.master_info.proofs.DiinSizeLaws.{ShortGiven, Limited, infoMost, info-room}
 use Rattle.refusal.specs.Below.{below}
 use Rattle.refusal.specs.Orders.{infoRank}
-use Rattle.refusal.proofs.OrderLaws.{once-room}
+use Rattle.refusal.proofs.OrderLaws.{info-rank-low, once-room}
 use Rattle.refusal.specs.declared.verdict.Verdict.the-variants.{Accepted}
 use Rattle.rows.specs.declared.row.Row.the-variants as row
 use Rattle.row_extents.proofs.RowFaultLaws.{RowsFit}
@@ -64,12 +64,6 @@ mostMade = 1 + 2 * mostTracks
 -- the most bytes of each chunk of DIIN, by its number
 abbrev infoMosts : ℕ → ℕ
 infoMosts r = getD (map (infoMost longestText mostMade) (EditedMasterId ∷ Markers ∷ Artist ∷ Title ∷ [])) r 0
-
-four-names : (c : InfoChunk) → infoRank c < 4
-four-names EditedMasterId = omega arith
-four-names Markers = omega arith
-four-names Artist = omega arith
-four-names Title = omega arith
 
 by-number : (c : InfoChunk) → infoMosts (infoRank c) ≡ infoMost longestText mostMade c
 by-number EditedMasterId = refl
@@ -124,7 +118,7 @@ module _ (x : Inputs) (ok : verdict x ≡ Accepted) where
   unfolding below
   diin-low on =
       rw (bytes-each)
-      (omega (arith, once-room infoRank chunkBytes infoMosts one-low 4 four-names (x .infoOrder) (λ r h. omega (arith, info-once x ok on r h))))
+      (omega (arith, once-room infoRank chunkBytes infoMosts one-low 4 info-rank-low (x .infoOrder) (λ r h. omega (arith, info-once x ok on r h))))
 
   -- so whether there is a DIIN is 01's rule alone
   pub diin-rule : hasDiin (x .pool) (x .raw) (x .tracks) (x .markers) info (x .infoOrder)

@@ -7,8 +7,12 @@ use native.Mathlib.Omega.{arith}
 use lib.Dec.{eqb, ltb}
 use lib.ListN.{length, getD, length-append}
 use borrow.Author.Tests.{eqb-true, eqb-false, ltb-true, ltb-false, lt-ltb, le-ltb}
+use Rattle.chunk_names.specs.declared.InfoChunk.{InfoChunk}
+use Rattle.chunk_names.specs.declared.InfoChunk.the-variants.{EditedMasterId, Markers, Artist, Title}
+use Rattle.chunk_names.specs.declared.LocalChunk.{LocalChunk}
+use Rattle.chunk_names.specs.declared.LocalChunk.the-variants.{Property, SoundData, DstIndex, EditedMasterInfo, Comments}
 use Rattle.refusal.specs.Below.{below, howMany}
-use Rattle.refusal.specs.Orders.{times}
+use Rattle.refusal.specs.Orders.{infoRank, localRank, times}
 
 -- how often a number is in a row, by the row's first number
 how-many-front : (f : ℕ → Bool) (n : ℕ) → howMany f (suc n) ≡ cond (f 0) 1 0 + howMany (λ k. f (suc k)) n
@@ -23,6 +27,20 @@ times-cons x xs r = how-many-front (λ k. eqb (getD (x ∷ xs) k 0) r) (length x
 pub times-none : (r : ℕ) → times [] r ≡ 0
 unfolding times below
 times-none r = refl
+
+-- the numbers of the names are below how many there are
+pub info-rank-low : (c : InfoChunk) → infoRank c < 4
+info-rank-low EditedMasterId = omega arith
+info-rank-low Markers = omega arith
+info-rank-low Artist = omega arith
+info-rank-low Title = omega arith
+
+pub local-rank-low : (c : LocalChunk) → localRank c < 5
+local-rank-low Property = omega arith
+local-rank-low SoundData = omega arith
+local-rank-low DstIndex = omega arith
+local-rank-low EditedMasterInfo = omega arith
+local-rank-low Comments = omega arith
 
 -- NAMES, each a number below `names`, that make at most so much each
 module _ {A : Type 0} (rank : A → ℕ) (made : A → List ℕ) (most : ℕ → ℕ) (fits : (x : A) → length (made x) ≤ most (rank x)) where
