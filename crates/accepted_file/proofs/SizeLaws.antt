@@ -125,7 +125,7 @@ module _ (x : Inputs) (ok : verdict x ≡ Accepted) (sized : Ordered x) where
           omega (arith, most)
       go Dst = omega (arith, sum-low (x .options .«dst_crc») (x .lengths) (λ k h. accepted.lengths-bound x ok k h .1), lengths-few)
 
-  -- (of texts of 1,048,576 values too, but of none that are much longer)
+  -- (for texts of 1,048,576 values no smaller power of 2 would do)
   comments-low : length (comt (x .pool) (x .comments) (info (parts x) .text)) ≤ 2 ^ 36
   unfolding comt
   comments-low = go (hasComt cs) refl

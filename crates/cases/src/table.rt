@@ -6,10 +6,10 @@ use crate::part::find;
 use crate::part::part;
 use crate::print;
 
-// Room for the words of 65,537 comments and a little more, and for a text of 65,536 bytes.
-const ROWS: usize = 590_000;
+// Room for the words of a text of 1,048,577 values and a little more (65,537 comments have 589,833), and for one of as many bytes.
+const ROWS: usize = 1_048_700;
 
-const BYTES: usize = 65_536;
+const BYTES: usize = 1_048_577;
 
 // The number of the list of bytes.
 const RAW: usize = 1;

@@ -1,5 +1,5 @@
--- 1: "A text (EMID and marker texts included) exceeds 65,535 values, or tracks exceed 65,535, caller chunks 255, custom markers 65,535, or one caller chunk
--- 16,777,216 bytes" (01; the tracks by 02, job 10). 2: "A stretch runs outside its pool". 3: "A text value is no Unicode scalar". Every text that is given counts,
+-- 1: "A text (EMID and marker texts included) exceeds 1,048,576 values, or tracks exceed 65,535, caller chunks 255, custom markers 65,535, or one caller chunk
+-- 16,777,216 bytes" (01; the values by 02, job 3, the tracks by 02, job 10). 2: "A stretch runs outside its pool". 3: "A text value is no Unicode scalar". Every text that is given counts,
 -- used or not; given markers only if they are wanted. Assumes nothing.
 use Prim.Native.Nat.{ℕ, _-_, _^_}
 use mathlib.Core.Bool.{Bool, _&&_, _||_}
@@ -15,7 +15,7 @@ use Rattle.build_options.specs.Options.{tagRows, idRow}
 
 -- the longest text, and the longest data of a caller chunk
 abbrev pub longestText : ℕ
-longestText = 65_535
+longestText = 1_048_576
 
 abbrev pub longestCallerChunk : ℕ
 longestCallerChunk = 16_777_216

@@ -10,7 +10,7 @@ use row_extents::extents::extents;
 use rows::row::Row;
 use rows::scalars::no_scalars;
 
-const LONGEST_TEXT: u32 = 65_535;
+const LONGEST_TEXT: u32 = 1_048_576;
 
 const LONGEST_CALLER_CHUNK: u32 = 16_777_216;
 

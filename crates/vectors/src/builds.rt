@@ -9,6 +9,7 @@ use crate::inputs;
 use crate::inputs::Lists;
 use crate::number::count;
 use crate::unpack;
+use crate::unpack::Unpacked;
 use single_words::word::is_set;
 
 // Where among the words the kind of sound stands, and the switch of CRCs.
@@ -220,6 +221,12 @@ fn counted(
     o
 }
 
+// The raw bytes behind the words, by way of the rows: there is no room for others beside these.
+fn unpack_raw(file: &[u8], at: usize, rows: &mut [u32], raw: &mut [u8]) -> Unpacked {
+    let words = unpack::words(file, at, rows);
+    unpack::bytes_by(file, words.at, rows, raw)
+}
+
 // The record at `at`, behind its kind.
 pub(crate) fn run(
     file: &[u8],
@@ -232,8 +239,8 @@ pub(crate) fn run(
     wanted_header: &mut [u8],
     wanted_trailer: &mut [u8],
 ) -> Outcome {
-    let words = unpack::words(file, at, rows);
-    let in_raw = unpack::bytes(file, words.at, raw);
+    let in_raw = unpack_raw(file, at, rows, raw);
+    unpack::words(file, at, rows);
     counted(
         file,
         in_raw.at,

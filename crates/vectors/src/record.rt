@@ -10,9 +10,12 @@ use crate::number::take;
 use crate::reads;
 use crate::unpack;
 
-// Room for what a build has: the words of 65,536 comments, and texts of 65,536 elements.
-const WORDS: usize = 600_000;
+// Room for the words of a build, and for its raw bytes: a text of 1,048,577 elements, one more than a build takes.
+const WORDS: usize = 1_050_000;
 
+const RAW: usize = 1_050_000;
+
+// Room for a header.
 pub const ROOM: usize = 66_560;
 
 // Room for a trailer, and for the two sides of a file that is read.
@@ -22,7 +25,7 @@ const FILE_WORDS: usize = 2_048;
 
 fn build(file: &[u8], at: usize, counts: &mut [usize]) -> Outcome {
     let mut rows = [0u32; WORDS];
-    let mut raw = [0u8; ROOM];
+    let mut raw = [0u8; RAW];
     let mut header = [FILL; ROOM];
     let mut trailer = [FILL; SIDE];
     let mut wanted_header = [FILL; ROOM];
