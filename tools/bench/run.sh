@@ -1,11 +1,11 @@
 #!/bin/sh
 # Times builds and reads of whole files by this repository's compiled library and by the original Rust, side by side:
-#   run.sh [--request DIR] [--library FILE] [--only reads|parts|crc|builds]
+#   run.sh [--request DIR] [--library FILE] [--only reads|parts|crc|builds|asking|largest]
 # README.md says what is timed. Status: 0 it ran, 1 the bytes of the two differ, 2 something could not be run.
 set -eu
 
 usage() {
-    echo "usage: run.sh [--request DIR] [--library FILE] [--only reads|parts|crc|builds]" >&2
+    echo "usage: run.sh [--request DIR] [--library FILE] [--only reads|parts|crc|builds|asking|largest]" >&2
     exit 2
 }
 
@@ -22,7 +22,7 @@ while [ $# -gt 0 ]; do
         --request) request=$2 ;;
         --library) library=$2 ;;
         --only)
-            case $2 in reads | parts | crc | builds) only=$2 ;; *) usage ;; esac
+            case $2 in reads | parts | crc | builds | asking | largest) only=$2 ;; *) usage ;; esac
             ;;
         *) usage ;;
     esac

@@ -7,8 +7,8 @@ usage() {
     cat >&2 <<'END'
 usage: run.sh [OPTION VALUE]..
   --seed N         the seed of the drawn cases (20240611)
-  --count N        how many are drawn, of each subject (20000, of tracks 500, of reads 1000)
-  --subject NAME   one of text, markers, sound, crc, checks, builds, tracks, reads alone
+  --count N        how many are drawn, of each subject (20000, of tracks 500, of notes 250, of reads 1000)
+  --subject NAME   one of text, markers, sound, crc, checks, builds, tracks, notes, reads alone
   --failing FILE   where its smallest failing case is saved (target/differential/smallest-NAME.txt)
   --replay FILE    compare only the case that was saved in FILE, again
   --record FILE    compare nothing, write a sample of the original's answers

@@ -17,6 +17,19 @@ TEXTS_ON = "info 1;artist_title on;"
 COMMENT = "comment 0 0 0 0 0 0 0 41 "
 EMPTY_COMMENT = "comment 0 0 0 0 0 0 0 . "
 
+# Where a text can be: the line that gives it, and what has it written; a comment always is.
+TRACK_TEXTS_ON = TEXTS_ON + "artist_title_source track;track 0 1;source_track 1"
+TEXT_PLACES = {
+    "track-title": ("track 0 1 {}", "info 1;marker_text title"),
+    "album": ("tag album {}", TEXTS_ON),
+    "album-artist": ("tag album_artist {}", TEXTS_ON),
+    "title": ("tag title {}", TRACK_TEXTS_ON),
+    "performer": ("tag performer {}", TRACK_TEXTS_ON),
+    "comment": ("comment 0 0 0 0 0 0 0 {}", ""),
+    "emid": ("emid {}", "info 1"),
+    "marker-text": ("marker 0 4 0 {}", "info 1"),
+}
+
 
 def refused(number, detail=0):
     return f"refused {number} {detail} "
@@ -40,21 +53,25 @@ def tracks_in_a_row(count):
 
 # Refusals 1 to 12: amounts, names, the area, lengths and range
 
+def long_texts(add):
+    """Both sides of the limit, and of 65,535 (document 01's), of a text in each place, written and not."""
+    for place, (given, written) in TEXT_PLACES.items():
+        for length in (65535, 65536, 1048576, 1048577):
+            text = given.format(f"41*{length}")
+            add(f"r01-{place}-{length}", text, "accepted 9552" if written else ACCEPTED)
+            if written:
+                add(f"r01-{place}-{length}-written", f"{text};{written}")
+    for length in (65536, 1048576, 1048577):
+        add(f"r01-emid-{length}-off", f"emid 41*{length};emid_written 0", "accepted 9552")
+        add(f"r01-comment-{length}-d2", f"departures d2;comment 0 0 0 0 0 0 0 c3bf*{length}")
+        add(f"r01-comment-{length}-of-4-bytes", f"comment 0 0 0 0 0 0 0 f09d849e*{length}")
+        add(f"r01-comment-{length}-vanishing", f"replacement none;comment 0 0 0 0 0 0 0 c3a9*{length}", "accepted 9552")
+    add("r01-comments-1048576", times("comment 0 0 0 0 0 0 0 41*1048576", 4))
+    add("r01-comments-last-1048577", "comment 0 0 0 0 0 0 0 41 3;comment 0 0 0 0 0 0 0 41*1048577")
+
+
 def refusal_1(add):
-    add("r01-track-title-65535", "track 0 1 41*65535")
-    add("r01-track-title-65536", "track 0 1 41*65536", "accepted 9552")
-    add("r01-track-title-65536-written", "track 0 1 41*65536;info 1;marker_text title")
-    add("r01-album-65535", "tag album 41*65535")
-    add("r01-album-65536", "tag album 41*65536", "accepted 9552")
-    add("r01-album-65536-written", "tag album 41*65536;info 1;artist_title on")
-    add("r01-comment-65535", "comment 0 0 0 0 0 0 0 41*65535")
-    add("r01-comment-65536", "comment 0 0 0 0 0 0 0 41*65536")
-    add("r01-emid-65535", "emid 41*65535", "accepted 9552")
-    add("r01-emid-65536", "emid 41*65536", "accepted 9552")
-    add("r01-emid-65536-written", "emid 41*65536;info 1")
-    add("r01-emid-65536-off", "emid 41*65536;emid_written 0", "accepted 9552")
-    add("r01-marker-text-65536", "marker 0 4 0 41*65536", "accepted 9552")
-    add("r01-marker-text-65536-written", "marker 0 4 0 41*65536;info 1")
+    long_texts(add)
     add("r01-tracks-255", times("track 0 1", 255), "accepted 9552")
     add("r01-tracks-256", times("track 0 1", 256), "accepted 9552")
     add("r01-tracks-65535", times("track 0 1", 65535), "accepted 9552")
@@ -67,10 +84,6 @@ def refusal_1(add):
     add("r01-markers-65536-info-off", times("marker 0 4 0 .", 65536), "accepted 9552")
     add("r01-caller-16777216", "caller 41414141 00*16777216", f"accepted {9552 + 12 + 16777216}")
     add("r01-caller-16777217", "caller 41414141 00*16777217", f"accepted {9552 + 12 + 16777218}")
-    add("r01-marker-text-65535", "marker 0 4 0 41*65535;info 1")
-    add("r01-comment-written-65536-d2", "departures d2;comment 0 0 0 0 0 0 0 c3bf*65536")
-    for tag in ("title", "performer", "album_artist"):
-        add(f"r01-{tag}-65536", f"tag {tag} 41*65536", "accepted 9552")
 
 
 def refusal_3(add):

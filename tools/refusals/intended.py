@@ -28,7 +28,7 @@ INTENDED = (
         "r01-",
         r"refused 1 0",
         r"accepted ",
-        18,
+        24,
         "1: the Rust has no limits on texts, tracks, markers and caller chunks.",
     ),
     Intended(

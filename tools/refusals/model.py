@@ -1,5 +1,6 @@
-"""Document 01's rules for a build, written from its text: the refusals 1 to 39 in their order, and the bytes. Of tracks
-01 has another limit in 1 and none in 17; here 1 is of more than 65,535 and 17 also of more than 255 (document 02).
+"""Document 01's rules for a build, written from its text: the refusals 1 to 39 in their order, and the bytes. Of texts
+and tracks 01 has other limits in 1, and of tracks none in 17; here 1 is of a text of more than 1,048,576 values and of
+more than 65,535 tracks, and 17 also of more than 255 (document 02).
 
 What the case language cannot say is not here: pools (2), values that are no scalars (3), lengths given for DSD (9),
 short buffers (40, 41). The speaker layout is worked out from the channels and the configuration, so it always has its
@@ -13,7 +14,7 @@ from cases import Marker
 
 FRAME_BYTES_PER_CHANNEL = 4_704
 LONGEST_DST_FRAME = 65_536
-LONGEST_TEXT = 65_535
+LONGEST_TEXT = 1_048_576
 MOST_TRACKS = 65_535
 MOST_EDITED_MASTER_TRACKS = 255
 MOST_CALLERS = 255

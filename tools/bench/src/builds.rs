@@ -32,7 +32,7 @@ impl<'a> Original<'a> {
 }
 
 /// The original's defaults.
-fn defaults(sound: Sound<'_>) -> Build {
+pub fn defaults(sound: Sound<'_>) -> Build {
     let positions = sound.positions as u32;
     let properties = Properties {
         order: [0, 1, 2, 3, 4],
@@ -82,6 +82,11 @@ impl<'a> Ours<'a> {
             Some(texts) => with_texts(build, lent, &texts.ours),
             None => (build, lent),
         };
+        Ours::of(&build, lent)
+    }
+
+    /// Of any values and rows.
+    pub fn of(build: &Build, lent: Lent<'a>) -> Ours<'a> {
         Ours { words: build.words(), lent }
     }
 
@@ -92,13 +97,13 @@ impl<'a> Ours<'a> {
     }
 
     /// How long the header is: what the refusal of an empty buffer tells.
-    fn header_length(&self) -> u64 {
+    pub fn header_length(&self) -> u64 {
         let (number, [needed, ..]) = self.call(&mut [], &mut []);
         if number == HEADER_SHORT { needed } else { 0 }
     }
 
     /// How long the trailer is, likewise.
-    fn trailer_length(&self, header: &mut [u8]) -> u64 {
+    pub fn trailer_length(&self, header: &mut [u8]) -> u64 {
         let (number, [needed, ..]) = self.call(header, &mut []);
         if number == TRAILER_SHORT { needed } else { 0 }
     }

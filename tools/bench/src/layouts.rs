@@ -45,7 +45,8 @@ impl Inputs {
         let options = self.options.with_dsdiff_edited_master_info(true).with_dsdiff_artist_title(Some(true));
         let options = options.with_tags(Tags::Set(tags)).with_dsdiff_marker_text(MarkerText::TrackTitle);
         self.options = options.with_dsdiff_comments(texts.comments.iter().map(comment).collect());
-        self.toc.areas[0].tracks = (1..=u8::MAX).cycle().zip(&texts.tracks).map(|(number, track)| titled(number, track)).collect();
+        self.toc.areas[0].tracks =
+            (1..=u8::MAX).cycle().zip(&texts.tracks).map(|(number, track)| titled(number, track)).collect();
         self
     }
 

@@ -3,14 +3,18 @@
 
 #![forbid(unsafe_code)]
 
+mod asking;
 mod builds;
 mod crc_crate;
 mod crcs;
 mod file;
+mod largest;
 mod parts;
 mod pool;
 mod random;
 mod reads;
+mod shared;
+mod sizes;
 mod sound;
 mod texts;
 mod timing;
@@ -33,6 +37,8 @@ enum Table {
     Parts,
     Crcs,
     Builds,
+    Asking,
+    Largest,
 }
 
 /// The one table that the program's arguments ask for, if they do; nothing if they are not as in the usage.
@@ -49,13 +55,15 @@ fn only() -> Option<Option<Table>> {
         "parts" => Some(Some(Table::Parts)),
         "crc" => Some(Some(Table::Crcs)),
         "builds" => Some(Some(Table::Builds)),
+        "asking" => Some(Some(Table::Asking)),
+        "largest" => Some(Some(Table::Largest)),
         _ => None,
     }
 }
 
 fn main() -> ExitCode {
     let Some(only) = only() else {
-        eprintln!("usage: bench [--only reads|parts|crc|builds]");
+        eprintln!("usage: bench [--only reads|parts|crc|builds|asking|largest]");
         return ExitCode::from(2);
     };
     match run(&Pool::new(), only) {
@@ -74,6 +82,7 @@ fn run(pool: &Pool, only: Option<Table>) -> Result<(), String> {
     let texts = [
         Texts::new("texts", short, 20, 10, 200),
         Texts::new("long comments", short, 20, 8, 60_000),
+        Texts::new("session notes", short, 20, 4, 1 << 20),
         Texts::new("2,000 tracks", long, 2_000, 0, 0),
     ];
     let with_texts = texts.iter().map(|texts| {
@@ -81,7 +90,8 @@ fn run(pool: &Pool, only: Option<Table>) -> Result<(), String> {
         File::new(sound, Some(texts))
     });
     let with_texts = with_texts.collect::<Result<Vec<_>, _>>()?;
-    let wanted = |table| only.is_none_or(|only| only == table);
+    // Minutes: only if it is asked for.
+    let wanted = |table| only.map_or(table != Table::Largest, |only| only == table);
     if wanted(Table::Reads) {
         println!();
         print_reads(&files)?;
@@ -97,6 +107,14 @@ fn run(pool: &Pool, only: Option<Table>) -> Result<(), String> {
     if wanted(Table::Builds) {
         println!();
         print_builds(files.iter().chain(&with_texts));
+    }
+    if wanted(Table::Asking) {
+        println!();
+        asking::print(pool)?;
+    }
+    if wanted(Table::Largest) {
+        println!();
+        largest::print(pool)?;
     }
     Ok(())
 }

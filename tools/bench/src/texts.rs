@@ -59,7 +59,7 @@ impl Texts {
     }
 }
 
-fn character(random: &mut Random) -> char {
+pub fn character(random: &mut Random) -> char {
     if random.word().is_multiple_of(ONE_OF) {
         return REPLACED[random.word() as usize % REPLACED.len()];
     }

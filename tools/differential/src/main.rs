@@ -12,6 +12,7 @@ mod chunks;
 mod crc;
 mod lines;
 mod markers;
+mod notes;
 mod original;
 mod progress;
 mod random;
@@ -58,7 +59,7 @@ type Run = fn(&Path, &Task) -> Result<bool, String>;
 const COUNT: u64 = 20_000;
 
 /// The subjects, each with that number.
-const SUBJECTS: [(&str, Run, u64); 8] = [
+const SUBJECTS: [(&str, Run, u64); 9] = [
     ("text", subject::run::<text::Text>, COUNT),
     ("markers", subject::run::<markers::Markers>, COUNT),
     ("sound", subject::run::<sound::Sound>, COUNT),
@@ -67,6 +68,8 @@ const SUBJECTS: [(&str, Run, u64); 8] = [
     ("builds", subject::run::<builds::Builds>, COUNT),
     // A case has up to 65,536 tracks.
     ("tracks", subject::run::<tracks::Tracks>, 500),
+    // A case has texts of up to 1,048,576 values.
+    ("notes", subject::run::<notes::Notes>, 250),
     // A case has a thousand reads and more.
     ("reads", subject::run::<reads::Reads>, 1_000),
 ];
@@ -147,5 +150,19 @@ fn hex(bytes: &[u8]) -> String {
     if bytes.is_empty() {
         return ".".into();
     }
-    bytes.iter().map(|byte| format!("{byte:02x}")).collect()
+    let digits = bytes.iter().flat_map(|byte| [byte >> 4, byte & 0xF]);
+    digits.map(|digit| char::from(b"0123456789abcdef"[usize::from(digit)])).collect()
+}
+
+/// The same in the original's case language, where a long run of one byte is short.
+fn short_hex(bytes: &[u8]) -> String {
+    if is_long_run(bytes) {
+        return format!("{:02x}*{}", bytes[0], bytes.len());
+    }
+    hex(bytes)
+}
+
+/// Whether it is one element again and again.
+fn is_long_run<T: PartialEq>(list: &[T]) -> bool {
+    list.len() > 100 && list.iter().all(|element| *element == list[0])
 }

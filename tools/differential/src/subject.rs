@@ -58,7 +58,7 @@ pub enum Halt {
 }
 
 /// Enough is tried when the cases asked and their answers have this many bytes of text.
-const ENOUGH_BYTES: usize = 1 << 26;
+const ENOUGH_BYTES: usize = 1 << 28;
 
 // How much of a case is printed.
 const SHOWN_LINES: usize = 100;

@@ -5,10 +5,10 @@ use std::ops::Range;
 
 use crate::calls::hold;
 use crate::chunks::{self, Chunk};
-use crate::hex;
 use crate::original::Answer;
 use crate::random::Random;
 use crate::subject::{keep, simplify_list, Disagreement, Fails, Halt, Subject};
+use crate::{hex, is_long_run};
 use library::text::{self as ours, Conversion, Extent, Row, Switches, D2, REMOVE, REPLACE};
 
 pub struct Text;
@@ -58,8 +58,12 @@ pub fn runs<T: PartialEq>(list: impl Iterator<Item = T>) -> impl Iterator<Item =
 
 /// A text in the original's case language: UTF-8 in hexadecimal.
 pub fn utf8(values: &[u32]) -> String {
-    let characters = values.iter().map(|&value| char::from_u32(value).expect("a scalar value"));
-    hex(characters.collect::<String>().as_bytes())
+    let character = |&value: &u32| char::from_u32(value).expect("a scalar value");
+    let told = |values: &[u32]| hex(values.iter().map(character).collect::<String>().as_bytes());
+    match is_long_run(values) {
+        true => format!("{}*{}", told(&values[..1]), values.len()),
+        false => told(values),
+    }
 }
 
 impl Case {
@@ -422,7 +426,7 @@ pub fn lay<T: Copy>(random: &mut Random, texts: &[Vec<T>], other: fn(&mut Random
 }
 
 /// A text's extent, or a stretch of at least `least` values of it.
-fn part(random: &mut Random, text: Extent, least: u32) -> Extent {
+pub fn part(random: &mut Random, text: Extent, least: u32) -> Extent {
     if text.length <= least || random.one_in(2) {
         return text;
     }

@@ -49,6 +49,8 @@ DAMAGES = [
     ("a bit of a marker's text turned", "diin-markers", _data_turned(b"MARK", 22, 2)),
     ("a bit of the artist turned", "diin-pads-counted", _data_turned(b"DIAR", 5)),
     ("a bit of a comment turned", "comt-before", _data_turned(b"COMT", 16)),
+    ("the last bit of a long comment turned", "comt-long", _data_turned(b"COMT", -1)),
+    ("the last bit of a marker's long text turned", "diin-long-marker", _data_turned(b"MARK", -1, 1)),
     ("a bit of the tag's title turned", "id3", _data_turned(b"ID3 ", 22)),
     ("a bit of a caller chunk turned", "callers", _data_turned(b"ODD ", 2)),
     ("a bit of FRM8's size turned", "dsd-2ch-d1", _size_turned(b"FRM8")),

@@ -6,8 +6,8 @@ use library::text::{D2, REPLACE};
 
 use super::fixed::{bytes, set_layout, set_order, set_range, set_start, with, DSD, DST};
 use super::Case;
-use crate::checks::fixed::{caller, comments, marker, plain, track, Context, Fixed, Part, NONE};
-use crate::checks::{Beyond, Case as Build, Comments, Place};
+use crate::checks::fixed::{caller, comments, marker, plain, track, Context, Fixed, Part, NONE, TEXTS};
+use crate::checks::{Beyond, Case as Build, Comments, Place, LONGEST_TEXT};
 use crate::markers::draw::LAST_FRAME;
 use crate::markers::TrackOf;
 
@@ -37,11 +37,11 @@ impl Limits {
     }
 }
 
-/// 1, of a caller chunk (its other limits are among those of the checks), 2 and 3: extents and rows that end too late,
-/// values that are no scalars.
+/// 1, of a caller chunk (other limits of 1 are among those of the checks), 2 and 3: extents and rows that end too late, values
+/// that are no scalars.
 fn pools(limits: &mut Limits) {
     for (length, number) in [(16_777_216, 2), (16_777_217, 1)] {
-        limits.ours(DSD, number, |build| build.beyond.push(Beyond::NoPool(length)));
+        limits.ours(DSD, number, |build| build.beyond.push(Beyond::NoPool(Place::Caller, length)));
     }
     let places =
         [Place::Tag(0), Place::Tag(3), Place::Emid, Place::Track, Place::Marker, Place::Comment, Place::Caller];
@@ -322,9 +322,18 @@ fn local_order(limits: &mut Limits) {
     limits.both(DST, 37, |build| build.local_count = 6);
 }
 
+/// 1 and 2, of texts that no pool has.
+fn long_texts(limits: &mut Limits) {
+    for place in TEXTS {
+        for (length, number) in [(LONGEST_TEXT, 2), (LONGEST_TEXT + 1, 1), (u32::MAX, 1)] {
+            limits.ours(DSD, number, |build| build.beyond.push(Beyond::NoPool(place, length)));
+        }
+    }
+}
+
 pub fn limits() -> Vec<Case> {
     let mut limits = Limits { cases: Vec::new() };
-    for of in [pools, caller_names, area, edited_master, properties, info, comment_limits, local_order] {
+    for of in [pools, caller_names, area, edited_master, properties, info, comment_limits, local_order, long_texts] {
         of(&mut limits);
     }
     limits.cases

@@ -13,6 +13,7 @@ use library::checks::Verdict;
 use self::counts::Counts;
 use self::figures::Figures;
 use crate::checks::{self, border, Checks, Inputs, Wanted};
+use crate::markers::{self, Markers};
 use crate::original::Answer;
 use crate::random::Random;
 use crate::reads::asked::{self, simplify_lists, simplify_windows, Asked, Asks};
@@ -149,6 +150,23 @@ pub fn wanted(case: &checks::Case, answer: &Answer) -> Result<(Outcome, Verdict)
         Wanted::Only(verdict) => Ok((Outcome::Refused(verdict), original)),
         Wanted::After(_) => Err("the original was told something else".into()),
     }
+}
+
+/// Compares a build, and where it is accepted and no edited master, its PROP and DIIN by themselves too. Answers what was
+/// wanted of it as well.
+pub fn compare_with_parts(
+    case: &Case,
+    answer: &Answer,
+    counts: &mut Counts,
+    of_parts: &mut markers::counts::Counts,
+) -> Result<(Vec<Disagreement>, Outcome), String> {
+    let mut found = Builds::compare(case, answer, counts)?;
+    let (outcome, _) = wanted(&case.build, answer)?;
+    // An edited master has other options than it is given.
+    if found.is_empty() && matches!(outcome, Outcome::Built(_)) && !case.build.edited_master {
+        found = Markers::compare(&case.build.of, answer, of_parts)?;
+    }
+    Ok((found, outcome))
 }
 
 impl Subject for Builds {

@@ -8,7 +8,7 @@ use std::ops::Range;
 use library::checks::{self as ours, Lent, Verdict, WORDS};
 use library::markers::Marker;
 
-use super::fixed::{Fixed, Part};
+use super::fixed::{Fixed, Part, TWO_BYTES};
 use super::{told, Beyond, Case, Inputs, Place, LONGEST_TEXT, MOST_MARKERS, MOST_TRACKS};
 use crate::random::Random;
 use crate::subject::Disagreement;
@@ -184,8 +184,8 @@ pub fn calls(case: &Case, inputs: &Inputs, wanted: Option<Verdict>) -> Vec<Besid
         calls.extend((0..2).map(|_| draw_words(random, &inputs.words)));
         if let Some(wanted) = wanted {
             calls.push(draw_largest(random, case, &inputs.words, wanted));
-            // A 1 of the case is not for its EMID then.
-            if case.of.info.emid[2] <= LONGEST_TEXT {
+            // Else a 1 of the case may be for its EMID.
+            if !has_long_id(case) {
                 calls.push(draw_id_off(random, inputs, wanted));
             }
             if case.of.info.custom_markers && case.of.info.on && has_own_markers(case) {
@@ -226,6 +226,12 @@ fn with(words: &[u32], place: usize, value: u32) -> Vec<u32> {
 fn has_own_markers(case: &Case) -> bool {
     let others = [Beyond::Outside(Place::Marker), Beyond::CutShort(Place::Marker)];
     !case.beyond.iter().any(|beyond| others.contains(beyond))
+}
+
+/// Whether we are told an EMID that is too long.
+fn has_long_id(case: &Case) -> bool {
+    let told = |beyond: &Beyond| matches!(beyond, Beyond::NoPool(Place::Emid, _));
+    case.of.info.emid[2] > LONGEST_TEXT || case.beyond.iter().any(told)
 }
 
 /// One to three words past their fields, or another number of them.
@@ -362,6 +368,8 @@ fn fixed_ids(calls: &mut Vec<Beside>, inputs: &Inputs) {
         (pool, 1, 2),
         (pool + 1, 0, 2),
         (u32::MAX, 1, 2),
+        (0, TWO_BYTES, 2),
+        (0, TWO_BYTES + 1, 2),
         (0, LONGEST_TEXT, 2),
         (0, LONGEST_TEXT + 1, 1),
         (u32::MAX, u32::MAX, 1),

@@ -5,7 +5,7 @@ use library::markers::{FIVE_POINT_ONE, STEREO, THREE_TWO, UNSPECIFIED};
 use library::text::Extent;
 
 use super::faults::{self, Fault};
-use super::fixed::{shown, LAST};
+use super::fixed::{set_text, shown, LAST};
 use super::{layout_of, Beyond, Caller, Case, Comments, Lengths, Place, LONGEST_TEXT, USUAL};
 use super::{MOST_CALLERS, MOST_MASTER_TRACKS};
 use crate::markers::draw::{self as of, draw_numbers, last_number, percent, LAST_FRAME, LAYOUTS};
@@ -312,13 +312,17 @@ fn too_much(random: &mut Random, case: &mut Case) {
         }
         1 => case.callers.resize(MOST_CALLERS + 1, Caller { name: *b"AAAA", data: Vec::new() }),
         2 => {
-            let text = vec![random.pick(&[0x41, 0x1F]); LONGEST_TEXT as usize + 1];
-            case.comments.push(Comments { date: [0; 5], kind: 0, reference: 0, text, count: 1 });
+            let value = random.pick(&[0x41, 0x1F]);
+            set_too_long(case, Place::Comment, value);
         }
-        _ => {
-            let start = of.pool.len() as u32;
-            of.pool.resize(of.pool.len() + LONGEST_TEXT as usize + 1, 0x41);
-            of.info.track_artist = [1, start, LONGEST_TEXT + 1];
-        }
+        _ => set_too_long(case, Place::Tag(2), 0x41),
+    }
+}
+
+/// A text of one value more than it can have. One of twenty has its pool, and is told to the original.
+fn set_too_long(case: &mut Case, place: Place, value: u32) {
+    match case.of.buffers.is_multiple_of(20) {
+        true => set_text(case, place, &vec![value; LONGEST_TEXT as usize + 1]),
+        false => case.beyond.push(Beyond::NoPool(place, LONGEST_TEXT + 1)),
     }
 }

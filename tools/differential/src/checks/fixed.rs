@@ -200,7 +200,7 @@ fn faulty(context: Context, faults: &[u32], form: Form) -> Case {
     let mut callers = Vec::new();
 
     if has(1) {
-        set_text(&mut case, Place::Tag(1), LONGEST_TEXT + 1);
+        case.beyond.push(Beyond::NoPool(Place::Tag(1), LONGEST_TEXT + 1));
     }
     // In this order: what follows in the pool would be inside it.
     if has(3) {
@@ -451,10 +451,11 @@ fn at_once(cases: &mut Vec<Case>) {
     }
 }
 
-/// Gives the case a text of so many letters.
-fn set_text(case: &mut Case, place: Place, length: u32) {
+/// Gives the case a text, of these values or bytes.
+pub fn set_text(case: &mut Case, place: Place, values: &[u32]) {
     let of = &mut case.of;
-    let (values, bytes) = (vec![0x41; length as usize], vec![0x41; length as usize]);
+    let length = values.len() as u32;
+    let bytes = values.iter().map(|&value| value as u8);
     let text = Extent { start: of.pool.len() as u32, length };
     let raw = Extent { start: of.raw.len() as u32, length };
     let info = &mut of.info;
@@ -479,50 +480,64 @@ fn set_text(case: &mut Case, place: Place, length: u32) {
             of.custom.push(marker(info.first, raw));
             of.raw.extend(bytes);
         }
-        Place::Comment => case.comments.push(Comments { text: values, ..comments(0, [0, 0], 1) }),
-        Place::Caller => case.callers.push(Caller { data: bytes, ..caller(b"AAAA") }),
+        Place::Comment => case.comments.push(Comments { text: values.to_vec(), ..comments(0, [0, 0], 1) }),
+        Place::Caller => case.callers.push(Caller { data: bytes.collect(), ..caller(b"AAAA") }),
     }
 }
 
-/// Both sides of each limit of 1.
-fn limits(cases: &mut Vec<Case>) {
-    let places = [
-        Place::Tag(0),
-        Place::Tag(1),
-        Place::Tag(2),
-        Place::Tag(3),
-        Place::Emid,
-        Place::Track,
-        Place::Marker,
-        Place::Comment,
-    ];
-    for more in [0, 1] {
-        let mut add = |change: &dyn Fn(&mut Case)| {
-            for edited_master in [false, true] {
-                let mut case = plain(Context { dst: false, edited_master });
-                change(&mut case);
-                let tracks = edited_master && case.of.tracks.len() > MOST_MASTER_TRACKS;
-                let original = match (tracks, edited_master && case.of.info.custom_markers) {
-                    (true, _) => 17,
-                    (false, true) => 21,
-                    (false, false) => 0,
-                };
-                let ours = if more == 1 { 1 } else { original };
-                case.fixed = Some(Fixed { part: Part::Limit, ours, original });
-                cases.push(case);
-            }
+/// Where a text can be.
+pub const TEXTS: [Place; 8] = [
+    Place::Tag(0),
+    Place::Tag(1),
+    Place::Tag(2),
+    Place::Tag(3),
+    Place::Emid,
+    Place::Track,
+    Place::Marker,
+    Place::Comment,
+];
+
+/// What two bytes can count. A text can be longer.
+pub const TWO_BYTES: u32 = 65_535;
+
+/// A plain case with a change, which is refused with 1 or not; for an edited master and not.
+fn limit(cases: &mut Vec<Case>, refused: bool, change: impl Fn(&mut Case)) {
+    for edited_master in [false, true] {
+        let mut case = plain(Context { dst: false, edited_master });
+        change(&mut case);
+        let tracks = edited_master && case.of.tracks.len() > MOST_MASTER_TRACKS;
+        let original = match (tracks, edited_master && case.of.info.custom_markers) {
+            (true, _) => 17,
+            (false, true) => 21,
+            (false, false) => 0,
         };
-        for place in places {
-            add(&|case| {
-                if case.edited_master && place == Place::Track {
-                    case.of.tracks.clear();
-                }
-                set_text(case, place, LONGEST_TEXT + more);
-            });
-        }
-        add(&|case| case.of.tracks = vec![track(0, 75); MOST_TRACKS + more as usize]);
-        add(&|case| case.callers = vec![caller(b"AAAA"); MOST_CALLERS + more as usize]);
-        add(&|case| {
+        let ours = if refused { 1 } else { original };
+        case.fixed = Some(Fixed { part: Part::Limit, ours, original });
+        cases.push(case);
+    }
+}
+
+/// A text of so many letters in each place.
+fn texts(cases: &mut Vec<Case>, length: u32) {
+    let letters = vec![0x41; length as usize];
+    for place in TEXTS {
+        limit(cases, length > LONGEST_TEXT, |case| {
+            if case.edited_master && place == Place::Track {
+                case.of.tracks.clear();
+            }
+            set_text(case, place, &letters);
+        });
+    }
+}
+
+/// Both sides of each limit of 1, but for that of a text; texts on both sides of what two bytes can count.
+fn limits(cases: &mut Vec<Case>) {
+    for more in [0, 1] {
+        let refused = more == 1;
+        texts(cases, TWO_BYTES + more);
+        limit(cases, refused, |case| case.of.tracks = vec![track(0, 75); MOST_TRACKS + more as usize]);
+        limit(cases, refused, |case| case.callers = vec![caller(b"AAAA"); MOST_CALLERS + more as usize]);
+        limit(cases, refused, |case| {
             case.of.info.custom_markers = true;
             case.of.custom = vec![marker(0, NONE); MOST_MARKERS + more as usize];
         });
@@ -593,6 +608,9 @@ pub fn fixed() -> Vec<Case> {
     at_once(&mut cases);
     limits(&mut cases);
     border(&mut cases);
+    for length in [LONGEST_TEXT, LONGEST_TEXT + 1] {
+        texts(&mut cases, length);
+    }
     for (number, case) in (1..).zip(&mut cases) {
         case.beside = number;
     }

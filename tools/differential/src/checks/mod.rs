@@ -16,13 +16,13 @@ use library::text::{D2, REMOVE};
 
 use self::counts::Counts;
 use self::fixed::Fixed;
-use crate::hex;
 use crate::markers::draw::LAYOUTS;
 use crate::markers::{self, meant, order, LAST_TOLD};
 use crate::original::Answer;
 use crate::random::Random;
 use crate::subject::{Disagreement, Fails, Halt, Subject};
 use crate::text::{runs, utf8};
+use crate::{hex, short_hex};
 
 pub struct Checks;
 
@@ -88,8 +88,8 @@ pub enum Beyond {
     Outside(Place),
     /// A row that ends too early.
     CutShort(Place),
-    /// One more caller chunk of so many bytes, which no pool has.
-    NoPool(u32),
+    /// A text, or one more caller chunk, of so many elements, which no pool has.
+    NoPool(Place, u32),
     /// A text with this value, which is no scalar.
     NoScalar(Place, u32),
     /// Another layout.
@@ -114,10 +114,20 @@ pub enum Place {
     Caller,
 }
 
+impl Place {
+    /// The most elements of what is there.
+    fn longest(self) -> u32 {
+        match self {
+            Place::Caller => LONGEST_CALLER_DATA as u32,
+            _ => LONGEST_TEXT,
+        }
+    }
+}
+
 const LOCAL_NAMES: [&str; 5] = ["prop", "sound", "dsti", "diin", "comt"];
 
 // Limits that the original does not have.
-const LONGEST_TEXT: u32 = 65_535;
+pub const LONGEST_TEXT: u32 = 1_048_576;
 const LONGEST_CALLER_DATA: usize = 16_777_216;
 pub const MOST_TRACKS: usize = 65_535;
 const MOST_CALLERS: usize = 255;
@@ -132,8 +142,8 @@ impl Beyond {
     fn refusal(self) -> Option<(u32, u32)> {
         match self {
             Beyond::TrackZero => None,
-            Beyond::NoPool(length) if length as usize > LONGEST_CALLER_DATA => Some((1, 1)),
-            Beyond::Outside(_) | Beyond::CutShort(_) | Beyond::NoPool(_) => Some((2, 2)),
+            Beyond::NoPool(place, length) if length > place.longest() => Some((1, 1)),
+            Beyond::Outside(_) | Beyond::CutShort(_) | Beyond::NoPool(..) => Some((2, 2)),
             Beyond::NoScalar(..) => Some((3, 3)),
             Beyond::Layout(_) => Some((8, 8)),
             Beyond::DsdLengths(_) => Some((9, 9)),
@@ -148,7 +158,7 @@ impl Beyond {
             Beyond::TrackZero => "13: source track 0",
             Beyond::Outside(_) => "2: an extent outside its pool",
             Beyond::CutShort(_) => "2: a row cut short",
-            Beyond::NoPool(_) => "1 or 2: a long caller chunk that no pool has",
+            Beyond::NoPool(..) => "1 or 2: a long text or caller chunk that no pool has",
             Beyond::NoScalar(..) => "3: no scalar",
             Beyond::Layout(_) => "8: a layout without its channels",
             Beyond::DsdLengths(_) => "9: lengths for DSD",
@@ -163,16 +173,6 @@ impl Beyond {
 pub fn layout_of(channels: u8, config: u8) -> u8 {
     let named = LAYOUTS.iter().position(|&layout| layout == (channels, config % 8));
     named.map_or(UNSPECIFIED, |place| place as u8)
-}
-
-/// Bytes in the original's case language.
-fn short_hex(bytes: &[u8]) -> String {
-    match bytes {
-        [first, rest @ ..] if rest.len() > 100 && rest.iter().all(|byte| byte == first) => {
-            format!("{first:02x}*{}", bytes.len())
-        }
-        _ => hex(bytes),
-    }
 }
 
 impl Case {
@@ -358,6 +358,9 @@ impl Case {
     }
 }
 
+/// A comment's text of so many values may be that of another place too.
+const LEAST_SHARED: usize = 65_536;
+
 /// What the library is given, rows one after the other.
 #[derive(Clone)]
 pub struct Inputs {
@@ -374,10 +377,13 @@ pub struct Inputs {
 impl Inputs {
     fn comment(&mut self, comments: &Comments) {
         let Comments { date: [year, month, day, hour, minutes], kind, reference, ref text, count } = *comments;
-        let (start, length) = (self.pool.len() as u32, text.len() as u32);
+        // A long text that the pool ends with is taken from there.
+        if text.len() < LEAST_SHARED || !self.pool.ends_with(text) {
+            self.pool.extend(text);
+        }
+        let (start, length) = ((self.pool.len() - text.len()) as u32, text.len() as u32);
         let row: ours::Comment = [year, month, day, hour, minutes, kind, reference, start, length];
         self.comments.extend(row.repeat(count as usize));
-        self.pool.extend(text);
     }
 
     fn add(&mut self, beyond: Beyond) {
@@ -385,7 +391,7 @@ impl Inputs {
         match beyond {
             Beyond::TrackZero | Beyond::Layout(_) => {}
             Beyond::Outside(place) => self.row(place, 1),
-            Beyond::NoPool(length) => self.row(Place::Caller, length),
+            Beyond::NoPool(place, length) => self.row(place, length),
             Beyond::CutShort(place) => {
                 self.row(place, 0);
                 let rows = match place {

@@ -22,6 +22,8 @@ pub fn simplify(case: &mut Case, fails: Fails<'_, Case>) -> Result<(), Halt> {
     for number in 0..case.comments.len() {
         keep(case, fails, |case| case.comments[number].text.clear())?;
         keep(case, fails, |case| case.comments[number].text = vec![0x41])?;
+        let now = case.comments[number].text.len();
+        smaller(case, fails, now as u64, 0, |case, now| case.comments[number].text.truncate(now as usize))?;
         let now = case.comments[number].count;
         smaller(case, fails, now.into(), 1, |case, now| case.comments[number].count = now as u32)?;
         for place in 0..5 {

@@ -57,8 +57,7 @@ fn draw_length(random: &mut Random, least: u32) -> u32 {
 }
 
 /// Bytes that may be written as they are, also those that D2 adds.
-fn draw_bytes(random: &mut Random, d2: bool) -> Vec<u8> {
-    let length = draw_length(random, 0);
+pub fn draw_bytes(random: &mut Random, length: u32, d2: bool) -> Vec<u8> {
     let bytes = (0..length).map(|_| match random.between(0, 5) {
         0 => 0x20,
         1 => 0x7E,
@@ -268,7 +267,11 @@ pub fn draw(random: &mut Random) -> Case {
     let mut custom: Vec<MarkerOf> = (0..count).map(|_| draw_marker(random, first, end)).collect();
 
     // EMID, then the markers' texts.
-    let bytes: Vec<Vec<u8>> = (0..=custom.len()).map(|number| draw_bytes(random, d2 && number > 0)).collect();
+    let bytes = (0..=custom.len()).map(|number| {
+        let length = draw_length(random, 0);
+        draw_bytes(random, length, d2 && number > 0)
+    });
+    let bytes: Vec<Vec<u8>> = bytes.collect();
     let (raw, places) = lay(random, &bytes, |random| random.between(0, 255) as u8);
     let emid = if random.one_in(2) { given(random, places[0]) } else { absent(random, raw.len()) };
     for (marker, &place) in custom.iter_mut().zip(&places[1..]) {

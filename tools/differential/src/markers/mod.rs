@@ -13,9 +13,9 @@ use library::text::{Extent, D2, REMOVE};
 use self::counts::Counts;
 use crate::calls::hold;
 use crate::chunks;
-use crate::hex;
 use crate::original::Answer;
 use crate::random::Random;
+use crate::short_hex;
 use crate::subject::{Disagreement, Fails, Halt, Subject};
 use crate::text::{utf8, RULES};
 
@@ -176,7 +176,7 @@ impl Case {
             format!("info {}", bit(info.on)),
             format!("empty_info {}", bit(info.empty_info)),
             format!("emid_written {}", bit(info.emid[0] != 0)),
-            format!("emid {}", hex(emid)),
+            format!("emid {}", short_hex(emid)),
             format!("markers {}", if info.custom_markers { "custom" } else { "toc" }),
             format!("source_track_markers {}", bit(info.source_track_markers)),
             format!("clipped_program {}", bit(info.clipped_program)),
@@ -202,7 +202,7 @@ impl Case {
         if info.custom_markers {
             for MarkerOf { frame, kind, flags, text } in self.custom.iter().copied() {
                 let kind = if kind <= PROGRAM_START { kind } else { INDEX };
-                lines.push(format!("marker {frame} {kind} {flags} {}", hex(self.bytes(text))));
+                lines.push(format!("marker {frame} {kind} {flags} {}", short_hex(self.bytes(text))));
             }
         }
         for (name, tag) in self.tags().into_iter().filter(|(_, tag)| tag[0] != 0) {
@@ -220,7 +220,7 @@ impl Case {
             format!("{:?}", self.info),
             format!("the rule: {rule}"),
             format!("pool [{}]", pool.join(", ")),
-            format!("raw {}", hex(&self.raw)),
+            format!("raw {}", short_hex(&self.raw)),
         ];
         lines.extend(self.track_rows().iter().map(|row| format!("track {row:?}")));
         lines.extend(self.marker_rows().iter().map(|row| format!("marker {row:?}")));

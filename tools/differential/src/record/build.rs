@@ -10,9 +10,10 @@ use crate::checks::Inputs;
 /// The kind of record.
 const BUILD: u64 = 0;
 
-// What the program that answers again has room for: words, bytes of raw and of a header, bytes of a trailer.
-const MOST_WORDS: usize = 600_000;
-const MOST_BYTES: usize = 66_560;
+// What the program that answers again has room for: words, bytes of raw, of a header and of a trailer.
+const MOST_WORDS: usize = 1_050_000;
+const MOST_RAW: usize = 1_050_000;
+const LONGEST_HEADER: usize = 66_560;
 const LONGEST_TRAILER: usize = 8_192;
 
 /// All words of a build, lists with their counts in front.
@@ -29,7 +30,7 @@ fn all_words(inputs: &Inputs) -> Vec<u32> {
 /// The record, unless the build is too large. `alone` says that the answer is by document 01, not by the original.
 pub fn record(inputs: &Inputs, outcome: &Outcome, alone: bool) -> Option<Vec<u8>> {
     let words = all_words(inputs);
-    if words.len() > MOST_WORDS || inputs.raw.len() > MOST_BYTES {
+    if words.len() > MOST_WORDS || inputs.raw.len() > MOST_RAW {
         return None;
     }
     let mut out = Vec::new();
@@ -43,7 +44,7 @@ pub fn record(inputs: &Inputs, outcome: &Outcome, alone: bool) -> Option<Vec<u8>
             pack::number(&mut out, (*detail).into());
         }
         // What there is no room for is told by its length.
-        Outcome::Built(File { header, .. }) if header.len() > MOST_BYTES => {
+        Outcome::Built(File { header, .. }) if header.len() > LONGEST_HEADER => {
             pack::number(&mut out, HEADER_SHORT);
             pack::number(&mut out, header.len() as u64);
         }

@@ -17,6 +17,7 @@ use crate::builds::limits::{limits, NAME as LIMITS};
 use crate::builds::{self, wanted, Builds, Outcome};
 use crate::checks::fixed::{Fixed, Part};
 use crate::checks::{self, border};
+use crate::notes::fixed::longest;
 use crate::original::{Answer, Original};
 use crate::random::Random;
 use crate::reads::file::File;
@@ -244,7 +245,7 @@ pub fn record(program: &Path, task: &Task<'_>) -> Result<(), String> {
     let mut recorder = Recorder { given: given.is_some(), count, ..Recorder::default() };
     // Enough, as about one in two of the drawn is small and accepted.
     let numbers = given.unwrap_or_else(|| (0..4 * count).collect());
-    let fixed = own().into_iter().chain(limits()).chain(of_checks()).map(|case| (None, case));
+    let fixed = own().into_iter().chain(limits()).chain(of_checks()).chain(longest()).map(|case| (None, case));
     let drawn = numbers.into_iter().map(|number| {
         let case = builds::draw::draw(&mut Random::of_case(seed, number), false);
         (Some(number), case)

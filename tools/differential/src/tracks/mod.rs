@@ -5,8 +5,7 @@ mod draw;
 mod fixed;
 
 use self::counts::Counts;
-use crate::builds::{self, Builds, Case, Outcome};
-use crate::markers::Markers;
+use crate::builds::{compare_with_parts, Builds, Case};
 use crate::original::Answer;
 use crate::random::Random;
 use crate::subject::{Disagreement, Fails, Halt, Subject};
@@ -35,13 +34,8 @@ impl Subject for Tracks {
     }
 
     fn compare(case: &Case, answer: &Answer, counts: &mut Counts) -> Result<Vec<Disagreement>, String> {
-        let mut found = Builds::compare(case, answer, &mut counts.builds)?;
-        let (outcome, _) = builds::wanted(&case.build, answer)?;
+        let (found, outcome) = compare_with_parts(case, answer, &mut counts.builds, &mut counts.markers)?;
         counts.count(&case.build, &outcome);
-        // An edited master has other options than it is given.
-        if found.is_empty() && matches!(outcome, Outcome::Built(_)) && !case.build.edited_master {
-            found = Markers::compare(&case.build.of, answer, &mut counts.markers)?;
-        }
         Ok(found)
     }
 

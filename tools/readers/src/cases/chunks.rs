@@ -62,6 +62,21 @@ pub fn all() -> Vec<Case> {
             .comment(2, 1, "a source")
             .comment(3, 4, "history"),
         Case::dsd("comt-no-d1", "a comment, without D1", 2, 3).comment(0, 0, "even"),
+        dsd("comt-long", "a comment of 1,000,000 characters, before the sound", 3).comment(0, 0, &notes()),
+        dsd("comt-long-behind", "the same and a short one behind the sound", 3)
+            .order(ALL_BEHIND)
+            .comment(0, 0, &notes())
+            .comment(3, 4, "history"),
+        dsd("diin-long-marker", "MARKs, the second with a text of 1,000,000 characters", 3)
+            .info()
+            .emid("12")
+            .marker(0, PROGRAM_START, 0, "")
+            .marker(1, INDEX, 0, &notes())
+            .marker(3, TRACK_STOP, 0, "the end"),
+        dsd("diin-long-texts", "EMID, DIAR and DITI of 1,000,000 characters", 3)
+            .info()
+            .emid(&notes())
+            .artist_title(&notes(), &notes()),
         dsd("d2", "D2: texts in ISO 8859-1", 3)
             .info()
             .with(|build| build.d2 = true)
@@ -117,4 +132,9 @@ fn many_tracks() -> Case {
     let what = "MARKs with the titles of 2,000 tracks, of which every fourth has a stop";
     let case = Case::dsd("diin-2000-tracks", what, 1, 2_500).d1().info().with(|build| build.info.titles = true);
     (0..2_000).fold(case, |case, place| case.track(place + place / 4, 1, &format!("Item {}", place + 1)))
+}
+
+/// 1,000,000 characters, no two places alike.
+fn notes() -> String {
+    (0..100_000).map(|number| format!("Take{number:05}.")).collect()
 }
