@@ -150,6 +150,14 @@ man_pages() {
     done
 }
 
+# The crates of Debian's packages.
+host_crates() {
+    local names=("${host_packages[@]#librust-}")
+    names=("${names[@]%-dev}")
+    names=("${names[@]//-/_}")
+    command -v cargo && want "${host_packages[@]}" gcc && host_cargo 1800 build --release "${names[@]/#/--package=}"
+}
+
 host() {
     try "the host builds without warnings" without_warnings || return
     cargo_tests
@@ -165,7 +173,13 @@ host() {
     for shell in bash zsh fish; do try "completions for $shell" completion "$shell"; done
 }
 
-try "the library: ${JANGQERUZ_LIBRARY:-proved and compiled}" library || end
+# What the host is built on is compiled beside the proof, which leaves a core idle at times. Whether it could be is seen
+# when the host itself is built.
+[ -n "${JANGQERUZ_LIBRARY:-}" ] || host_crates >/dev/null 2>&1 &
+try "the library: ${JANGQERUZ_LIBRARY:-proved and compiled}" library
+proved=$?
+wait
+[ "$proved" = 0 ] || end
 if command -v python3 >/dev/null; then
     try "tools/border: header, names and refusals" python3 "$root/tools/border/border.py" --check
     try "tools/border: each changed parameter is seen" python3 "$root/tools/border/border.py" --try

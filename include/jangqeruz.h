@@ -199,8 +199,8 @@ enum {
 /* The numbers of the refusals. */
 enum jangqeruz_refusal {
     JANGQERUZ_ACCEPTED = 0,
-    /* A text (EMID and marker texts included) exceeds 65,535 values, or tracks exceed 65,535, caller chunks 255, custom
-     * markers 65,535, or one caller chunk 16,777,216 bytes.
+    /* A text (EMID and marker texts included) exceeds 1,048,576 values, or tracks exceed 65,535, caller chunks 255,
+     * custom markers 65,535, or one caller chunk 16,777,216 bytes.
      */
     JANGQERUZ_REFUSED_LIMITS = 1,
     JANGQERUZ_REFUSED_OUTSIDE_POOL = 2, /* A stretch runs outside its pool. */
@@ -273,7 +273,12 @@ size_t jangqeruz_defaults(uint32_t *words, size_t words_len);
 /* A build. The words are those of `jangqeruz_verdict`. */
 
 /* Header and trailer of a file. The number of the refusal is answered, 0 for none; `answer` gets the lengths of header,
- * sound and trailer, or the refusal's detail and zeros, as many of the three as it has room for.
+ * sound and trailer, or the refusal's detail and zeros, as many of the three as it has room for. Stretches may overlap,
+ * so that a small input can ask for very much: 65,535 comments of the same 1,048,576 values are a COMT of
+ * 68,719,345,652 bytes, and markers can make about as much of DIIN. The time, also of a build that is refused, grows
+ * with the values that words and rows name, added up, whether they are written or not (docs/PERFORMANCE.md has the cost
+ * of one); of comments there may be any number of rows, since 36 counts those that are written. A server adds up the
+ * lengths in all words and rows before it calls, and turns away what is above a limit of its own.
  */
 uint64_t jangqeruz_build(
     const uint32_t *words,
@@ -309,7 +314,8 @@ uint64_t jangqeruz_build(
 
 /* The number of the refusal, 0 for none, times 2^32, and the low 32 bits of its detail. The tracks, markers, comments
  * and caller's chunks are rows of words, the lengths those of the DST frames. EMID, the texts of markers and the
- * caller's chunks are bytes of `raw`, the other texts values of `pool`.
+ * caller's chunks are bytes of `raw`, the other texts values of `pool`. The time grows as that of `jangqeruz_build`,
+ * and a server does the same about it.
  */
 uint64_t jangqeruz_verdict(
     const uint32_t *words,

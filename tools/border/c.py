@@ -35,6 +35,18 @@ extern "C" {{
 #endif
 """
 
+# What a caller has to know of a function beside what crates/abi/src tells of it.
+NOTES = {
+    "jangqeruz_build": [
+        "Stretches may overlap, so that a small input can ask for very much: 65,535 comments of the same 1,048,576 values are a COMT of",
+        "68,719,345,652 bytes, and markers can make about as much of DIIN. The time, also of a build that is refused, grows with the",
+        "values that words and rows name, added up, whether they are written or not (docs/PERFORMANCE.md has the cost of one); of",
+        "comments there may be any number of rows, since 36 counts those that are written. A server adds up the lengths in all words",
+        "and rows before it calls, and turns away what is above a limit of its own.",
+    ],
+    "jangqeruz_verdict": ["The time grows as that of `jangqeruz_build`, and a server does the same about it."],
+}
+
 FOOT = """
 #ifdef __cplusplus
 }
@@ -116,5 +128,6 @@ def header(subjects, table, refusals):
     for subject in subjects:
         out += f"\n/* {'-' * 115} */\n\n{comment(subject.comment)}\n"
         for function in subject.functions:
-            out += "\n" + (comment(function.comment) + "\n" if function.comment else "") + declaration(function) + "\n"
+            told = function.comment + NOTES.get(function.name, [])
+            out += "\n" + (comment(told) + "\n" if told else "") + declaration(function) + "\n"
     return out + FOOT

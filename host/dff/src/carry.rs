@@ -10,6 +10,7 @@ mod top;
 
 use crate::Fault;
 use crate::commands::faults::Faults;
+use crate::sources::chunks::Unread;
 use crate::sources::dff::DffSource;
 use jangqeruz::{Options, Track};
 use std::ops::Range;
@@ -32,7 +33,9 @@ pub const DROP_COMMENTS: &str = "\n  --drop-comments leaves all comments out";
 
 /// What was carried over.
 pub struct Carried {
+    /// Without the chunks that are not known here.
     pub options: Options,
+    pub chunks: Vec<Unread>,
     /// Those that make the markers, if there are more than can be given.
     pub tracks: Vec<Track>,
     /// What is written otherwise than the file has it.
@@ -44,18 +47,18 @@ pub fn carry(source: &DffSource, span: Range<u32>, dropped: Dropped) -> Result<C
     let mut options = Options { edited_master_id: None, custom_markers: Some(vec![]), ..Options::default() };
     options.text_replacement = None;
     let pads = Pads::default();
-    let (tracks, faults, notes) = (vec![], Faults::default(), vec![]);
-    let mut carrier = Carrier { source, span, dropped, options, tracks, pads, start: 0, faults, notes };
+    let (chunks, tracks, faults, notes) = (vec![], vec![], Faults::default(), vec![]);
+    let mut carrier = Carrier { source, span, dropped, options, chunks, tracks, pads, start: 0, faults, notes };
     carrier.property();
     carrier.info();
     carrier.comments();
     carrier.sound()?;
-    carrier.top()?;
+    carrier.top();
     carrier.pads();
-    let Carrier { options, tracks, faults, notes, .. } = carrier;
+    let Carrier { options, chunks, tracks, faults, notes, .. } = carrier;
     match faults.told(source.file().path()) {
         Some(fault) => Err(fault),
-        None => Ok(Carried { options, tracks, notes }),
+        None => Ok(Carried { options, chunks, tracks, notes }),
     }
 }
 
@@ -64,6 +67,7 @@ struct Carrier<'s> {
     span: Range<u32>,
     dropped: Dropped,
     options: Options,
+    chunks: Vec<Unread>,
     tracks: Vec<Track>,
     pads: Pads,
     /// The frame of the day at which the file starts, 0 if it doesn't tell.

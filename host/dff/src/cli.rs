@@ -1,5 +1,6 @@
 //! The command line.
 
+use crate::sizes::Size;
 use crate::times::Time;
 use clap::{Args, Parser, Subcommand, ValueHint};
 use clap_complete::Shell;
@@ -70,6 +71,14 @@ const BUILD_EXAMPLES: &str = "Examples:
   dff build album.toml -o out --sources in  into out/, sources from in/
   dff build album.toml --force              replaces files that are there";
 
+/// Of all commands that build files.
+#[derive(Args, Debug)]
+pub struct LimitArgs {
+    /// Most bytes that header and trailer of a file may have together, as 65536 or 512MiB
+    #[arg(long, value_name = "SIZE", default_value = "1GiB", allow_negative_numbers = true)]
+    pub max_header: Size,
+}
+
 #[derive(Args, Debug)]
 pub struct BuildArgs {
     /// The manifest, a TOML file
@@ -81,6 +90,8 @@ pub struct BuildArgs {
     /// Folder of the sources [default: the manifest's]
     #[arg(long, value_name = "DIR", value_hint = ValueHint::DirPath)]
     pub sources: Option<PathBuf>,
+    #[command(flatten)]
+    pub limit: LimitArgs,
 }
 
 const CUT: &str = "Writes a span of a .dff file, DSD or DST, as a file of its own. No frame is altered. Start \
@@ -123,6 +134,8 @@ pub struct CutArgs {
     /// Leave out the comments
     #[arg(long)]
     pub drop_comments: bool,
+    #[command(flatten)]
+    pub limit: LimitArgs,
 }
 
 const CHECK: &str = "Says of each file of a manifest whether it can be written, a line each, and writes nothing. \
@@ -140,6 +153,8 @@ pub struct CheckArgs {
     /// Folder of the sources [default: the manifest's]
     #[arg(long, value_name = "DIR", value_hint = ValueHint::DirPath)]
     pub sources: Option<PathBuf>,
+    #[command(flatten)]
+    pub limit: LimitArgs,
 }
 
 const SHOW: &str = "Shows the chunks of a .dff file as a tree, with their places, sizes and values, and the \

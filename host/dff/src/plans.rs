@@ -1,133 +1,99 @@
-//! The files of a manifest, ready to be made: sources opened, options in the library's types, verdicts asked for.
+//! The files of a manifest, ready to be written: sources opened, options in the library's types, headers and trailers
+//! built.
 
+mod asked;
 mod causes;
 
 use crate::Fault;
-use crate::carry::Numbered;
 use crate::folder::{Folder, told};
-use crate::manifest::entries::Entry;
-use crate::manifest::names::Named;
-use crate::manifest::{Manifest, Planned, notes, options};
+use crate::limit::raise;
+use crate::manifest::Manifest;
+use crate::sizes::Size;
 use crate::sources::Sound;
 use crate::sources::open::Opener;
 use crate::sources::watched::Watched;
 use crate::times::counted;
-use jangqeruz::{Area, BuildError, Layout, Options};
+use asked::Asked;
+use jangqeruz::{Area, BuildError, File, Options, Refusal};
 use std::path::Path;
 
 pub struct Plan {
     /// The manifest's line and the file's name, for messages.
     pub label: String,
-    pub area: Area,
-    pub options: Options,
-    /// Of the range's DST frames.
-    pub lengths: Vec<u32>,
-    pub source: Box<dyn Sound>,
+    /// Header and trailer, and where the sound comes from.
+    pub file: File<Box<dyn Sound>>,
     /// What the manifest asks for and the file won't have.
     notes: Vec<String>,
 }
 
 /// All files of a manifest.
 pub struct Plans {
-    /// A plan for each, in order, or what is wrong with it.
+    /// A plan for each, in order, or what is wrong with it. If what is given for one is above the limit none is built,
+    /// and these are the faults that are known by then.
     pub files: Vec<Result<Plan, Fault>>,
     /// What was opened for them.
     pub opened: Vec<Watched>,
 }
 
-pub fn plans(manifest: &Manifest, sources: Option<&Path>) -> Result<Plans, Fault> {
+/// Header and trailer of a file may have `limit` bytes together. What is given for all files is added up before any is
+/// built.
+pub fn plans(manifest: &Manifest, sources: Option<&Path>, limit: Size) -> Result<Plans, Fault> {
     let path = sources.unwrap_or(manifest.folder());
     let folder = Folder::open(path).map_err(|errno| Fault::Source(format!("{}: {}", path.display(), told(errno))))?;
     let opener = Opener::new(manifest, &folder);
-    let files = manifest.files.iter().map(|planned| plan(&opener, planned)).collect();
+    let asked: Vec<_> = manifest.files.iter().map(|planned| Asked::open(&opener, planned)).collect();
+    let files = if asked.iter().flatten().any(|asked| asked.check(limit).is_err()) {
+        asked.into_iter().filter_map(|asked| asked.and_then(|asked| asked.check(limit)).err()).map(Err).collect()
+    } else {
+        asked.into_iter().map(|asked| asked.and_then(|asked| asked.plan(limit))).collect()
+    };
     Ok(Plans { files, opened: opener.opened() })
 }
 
-fn plan(opener: &Opener, Planned { name, entry }: &Planned) -> Result<Plan, Fault> {
-    let label = format!("{}: {name}", opener.manifest.line(entry.name.start()));
-    let source = opener.source(entry)?;
-    let chunks = entry.chunk.iter().map(|chunk| opener.chunk(chunk)).collect::<Result<_, _>>()?;
-    let (frames, channels) = (source.frames(), source.channels());
-    let range = entry.range.as_ref().map(|range| &range.0);
-    let first = range.and_then(|range| range.from).map_or(0, |time| time.0);
-    let end = range.and_then(|range| range.to).map_or(frames, |time| time.0);
-    let (layout, numbers) = layout(entry, source.as_ref()).map_err(|fault| fault.at(&label))?;
-    let area = Area {
-        kind: source.kind(),
-        channels,
-        layout,
-        playtime: entry.playtime.map_or(frames, |time| time.0),
-        first,
-        end,
-        tracks: options::tracks(entry),
-    };
-    let lengths = source.lengths(first..end);
-    let mut options = options::options(entry, chunks);
-    options.channel_numbers = options.channel_numbers.or(numbers);
-    let mut plan = Plan { label, area, options, lengths, source, notes: Vec::new() };
-    plan.judge()?;
-    plan.notes = notes::notes(entry, &plan.area, &plan.options);
-    Ok(plan)
+/// Header and trailer, if the library does not refuse them; then whether the source has what the range wants.
+fn built(
+    label: &str,
+    area: &Area,
+    options: &Options,
+    source: Box<dyn Sound>,
+    Size(limit): Size,
+) -> Result<File<Box<dyn Sound>>, Fault> {
+    let frames = source.frames();
+    let short = short(area, frames).map(|fault| fault.at(label));
+    let lengths = source.lengths(area.first..area.end);
+    match (File::build_within(limit, area, options, &lengths, source), short) {
+        // The lengths of frames that are not there are missing too.
+        (Err(BuildError::Refused(Refusal::LengthsCount)), Some(fault)) => Err(fault),
+        (Err(error), _) => Err(refused(label, &error, causes::cause(&error, area, options, frames))),
+        (Ok(_), Some(fault)) => Err(fault),
+        (Ok(file), None) => file.source().whole().map_err(|fault| fault.at(label)).map(|()| file),
+    }
 }
 
-/// The entry's layout, else the source's, else that of so many channels. Of an unspecified one also the numbers that
-/// the source has for its channels.
-fn layout(entry: &Entry, source: &dyn Sound) -> Result<Numbered, Fault> {
-    let (layout, numbers) = match (entry.layout, source.layout()) {
-        (Some(Named(layout)), told) => (layout, told.ok().flatten().and_then(|(_, numbers)| numbers)),
-        (None, Ok(Some(told))) => told,
-        (None, Ok(None)) => (Layout::of_channels(source.channels()), None),
-        (None, Err(Fault::File(words))) => {
-            return Err(Fault::File(format!("{words}\n  remedy: give the file's `layout` in the manifest")));
-        }
-        (None, Err(fault)) => return Err(fault),
-    };
-    Ok((layout, numbers.filter(|_| layout == Layout::Unspecified)))
+/// The fault if the range goes past the source's end.
+fn short(area: &Area, frames: u32) -> Option<Fault> {
+    let text = format!("the source has {}, the range ends at {}", counted(frames), area.end);
+    (area.first <= area.end && area.end > frames).then_some(Fault::Source(text))
 }
 
 impl Plan {
-    /// The library's verdict, then whether the source has what the range wants.
-    fn judge(&self) -> Result<(), Fault> {
-        let verdict = jangqeruz::verdict(&self.area, &self.options, &self.lengths);
-        let short = self.short();
-        match (verdict, short) {
-            // The lengths of frames that are not there are missing too.
-            (Err(BuildError::Refused(refusal)), Some(fault)) if refusal.number() == 9 => Err(fault),
-            (Err(error), _) => Err(self.refused(&error)),
-            (Ok(()), Some(fault)) => Err(fault),
-            (Ok(()), None) => self.source.whole().map_err(|fault| fault.at(&self.label)),
-        }
-    }
-
     /// The notes, as lines to print.
     pub fn notes(&self) -> impl Iterator<Item = String> {
         self.notes.iter().map(|note| format!("{}: note: {note}", self.label))
     }
-
-    /// The refusal, with what it is about.
-    fn refused(&self, error: &BuildError) -> Fault {
-        let cause = match error {
-            BuildError::Refused(refusal) => causes::cause(refusal, &self.area, &self.options, self.source.frames()),
-            _ => None,
-        };
-        match (refused(&self.label, error), cause) {
-            (Fault::Refused(text), Some(cause)) => Fault::Refused(format!("{text}\n  {cause}")),
-            (fault, _) => fault,
-        }
-    }
-
-    /// The fault if the range goes past the source's end.
-    fn short(&self) -> Option<Fault> {
-        let (frames, end) = (self.source.frames(), self.area.end);
-        let text = format!("{}: the source has {}, the range ends at {end}", self.label, counted(frames));
-        (self.area.first <= end && end > frames).then_some(Fault::Source(text))
-    }
 }
 
-/// What the library says against a file.
-pub fn refused(label: &str, error: &BuildError) -> Fault {
+/// What is against a file of a manifest, with the line on its cause.
+fn refused(label: &str, error: &BuildError, cause: Option<String>) -> Fault {
     match error {
-        BuildError::Refused(refusal) => Fault::Refused(format!("{label}: {refusal}\n  remedy: {}", refusal.remedy())),
+        BuildError::Refused(refusal) => {
+            let cause = cause.map_or(String::new(), |cause| format!("\n  {cause}"));
+            Fault::Refused(format!("{label}: {refusal}\n  remedy: {}{cause}", refusal.remedy()))
+        }
+        BuildError::AboveLimit { measured, bytes, .. } => {
+            let remedy = "remedy: shorten or leave out comments, titles, marker texts or chunks";
+            Fault::Manifest(format!("{label}: {error}\n  {remedy}{}", raise(*measured, *bytes)))
+        }
         error => Fault::Output(format!("{label}: {error}")),
     }
 }

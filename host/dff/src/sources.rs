@@ -1,6 +1,7 @@
 //! Where the sound comes from. Each source is a [`jangqeruz::Source`] that also knows how much there is of what, and
 //! whether it is still what it was when it was opened.
 
+pub mod chunks;
 pub mod coded;
 pub mod dff;
 pub mod open;

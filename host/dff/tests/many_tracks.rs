@@ -279,7 +279,7 @@ fn refusals_name_the_track() {
     let count = |count: usize| &most[..count];
     for keys in ["", TITLES, "edited_master = true"] {
         let cause = refused(&folder, 1, &most, keys);
-        assert_eq!(cause, "  there are 65536 tracks; the longest title is that of track 10000, 10 characters");
+        assert_eq!(cause, "  there are 65536 tracks; the longest text is the title of track 10000, 10 characters");
     }
     for number in [0, 256, 257, MOST] {
         let cause = refused(&folder, 17, count(number), "edited_master = true");

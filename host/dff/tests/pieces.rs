@@ -5,7 +5,7 @@ mod common;
 use common::{Draw, Folder};
 use dff::manifest::Manifest;
 use dff::plans::plans;
-use jangqeruz::File;
+use dff::sizes::Size;
 
 fn folder(name: &str) -> Folder {
     let folder = Folder::new(name);
@@ -47,9 +47,9 @@ fn random_pieces_are_the_file() {
 
     let manifest = Manifest::read(&folder.path("album.toml")).unwrap();
     let mut draw = Draw(2);
-    for (planned, plan) in manifest.files.iter().zip(plans(&manifest, None).unwrap().files) {
-        let plan = plan.unwrap();
-        let file = File::build(&plan.area, &plan.options, &plan.lengths, plan.source).unwrap();
+    let plans = plans(&manifest, None, Size(u64::MAX)).unwrap();
+    for (planned, plan) in manifest.files.iter().zip(plans.files) {
+        let file = plan.unwrap().file;
         let written = folder.read(&format!("out/{}", planned.name));
         assert_eq!(written.len() as u64, file.len());
         let read = |offset: usize, room: usize| {

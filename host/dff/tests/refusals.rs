@@ -42,17 +42,15 @@ fn manifest(rest: &str) -> String {
 
 /// The refusal's number and a manifest that causes it.
 fn refused() -> Vec<(u32, String)> {
-    let mut cases = vec![
-        (1, format!("{DSD}\n[[file.track]]\nstart = 0\nduration = 1\ntitle = '{}'", "a".repeat(65_536))),
-        (1, format!("{DSD}\nalbum = {{ artist = '{}' }}", "a".repeat(65_536))),
-        (1, format!("{DSD}\nedited_master_id = '{}'", "a".repeat(65_536))),
+    let mut cases: Vec<_> = texts(LONGEST_TEXT + 1).map(|rest| (1, rest)).collect();
+    cases.extend([
         (1, format!("{DSD}\n{}", tracks(65_536))),
         (1, format!("{DSD}\n{MASTER}\n{}", tracks(65_536))),
         (1, format!("{DSD}\n{}", chunks(256))),
         (1, format!("{DSD}\n{}", markers(65_536))),
         (1, format!("{DSD}\n[[file.chunk]]\nname = 'ABCD'\npath = 'larger'")),
         (36, format!("{DSD}\n{}", comments(65_536))),
-    ];
+    ]);
     let small = [
         (4, format!("{DSD}\n[[file.chunk]]\nname = ' ABC'\ntext = ''")),
         (4, format!("{DSD}\n[[file.chunk]]\nname = 'ABC\u{17F}'\ntext = ''")),
@@ -126,9 +124,8 @@ fn refused() -> Vec<(u32, String)> {
 
 /// The other side of the limits.
 fn accepted() -> Vec<String> {
-    vec![
-        format!("{DSD}\n[[file.track]]\nstart = 0\nduration = 1\ntitle = '{}'", "a".repeat(65_535)),
-        format!("{DSD}\nedited_master_id = '{}'", "a".repeat(65_535)),
+    let mut cases: Vec<_> = texts(65_536).chain(texts(LONGEST_TEXT)).collect();
+    cases.extend([
         format!("{DSD}\n{}", tracks(255)),
         format!("{DSD}\n{}", tracks(256)),
         format!("{DSD}\n{}", tracks(65_535)),
@@ -162,7 +159,27 @@ fn accepted() -> Vec<String> {
         comment("kind = 'general'", "reference = 65535"),
         format!("{DSD}\nlocal_order = ['PROP', 'SOUND']"),
         format!("{DST}\nlocal_order = ['PROP', 'DSTI', 'SOUND', 'COMT', 'DIIN']"),
+    ]);
+    cases
+}
+
+/// How many characters a text may have.
+const LONGEST_TEXT: usize = 1_048_576;
+
+/// A text of so many characters in each place that has one.
+fn texts(characters: usize) -> impl Iterator<Item = String> {
+    [
+        "album = { artist = '' }",
+        "album = { title = '' }",
+        "source_track_text = { artist = '' }",
+        "source_track_text = { title = '' }",
+        "edited_master_id = ''",
+        "track = [{ start = 0, duration = 1, title = '' }]",
+        "marker = [{ frame = 0, kind = 'index', text = '' }]",
+        "comment = [{ year = 1, month = 1, day = 1, text = '' }]",
     ]
+    .into_iter()
+    .map(move |keys| format!("{DSD}\n{}", keys.replace("''", &format!("'{}'", "a".repeat(characters)))))
 }
 
 fn comment(one: &str, other: &str) -> String {

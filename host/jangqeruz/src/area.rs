@@ -68,6 +68,6 @@ pub struct Track {
     pub start: u32,
     /// How many frames it has.
     pub duration: u32,
-    /// The text of its marker, if [`marker_titles`](crate::Options::marker_titles) is on.
+    /// The text of its marker, if [`marker_titles`](crate::Options::marker_titles) is on. Up to 1,048,576 characters.
     pub title: String,
 }

@@ -9,7 +9,7 @@ pub struct Marker {
     pub kind: MarkerKind,
     /// Written for a track's start only, 0 for the others.
     pub track_flags: u16,
-    /// Bytes 0x20 to 0x7E, under D2 also 0xA0 to 0xFF; [`text_bytes`] makes them of a text.
+    /// Up to 1,048,576 bytes 0x20 to 0x7E, under D2 also 0xA0 to 0xFF; [`text_bytes`] makes them of a text.
     pub text: Vec<u8>,
 }
 
@@ -44,7 +44,7 @@ pub struct Comment {
     /// Up to the number of channels for a channel, 2 for a sound source, 4 for the file's history. Of a general comment
     /// 0 is written.
     pub reference: u32,
-    /// Converted as all texts are.
+    /// Up to 1,048,576 characters, converted as all texts are.
     pub text: String,
 }
 
@@ -70,7 +70,7 @@ pub struct CallerChunk {
     pub data: Vec<u8>,
 }
 
-/// Artist and title. A text that is given, though empty, is present.
+/// Artist and title, of up to 1,048,576 characters each. A text that is given, though empty, is present.
 #[derive(Clone, Debug, Default, PartialEq, Eq)]
 pub struct ArtistTitle {
     /// For DIAR.

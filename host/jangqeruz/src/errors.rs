@@ -18,6 +18,15 @@ pub enum BuildError {
     },
     /// All texts together have more than 2^32 - 1 characters, or all bytes of markers, ID and caller chunks are more.
     TooLarge,
+    /// Header and trailer are, or may be, longer than [`File::build_within`](crate::File::build_within) lets them.
+    AboveLimit {
+        /// What is above the limit already.
+        measured: Measured,
+        /// How many bytes it has, texts with a byte for each character.
+        bytes: u64,
+        /// How many header and trailer may have together.
+        limit: u64,
+    },
     /// The library answered what it never should. The static library is not the one that this crate is made for.
     Broken {
         /// The refusal's number.
@@ -45,6 +54,9 @@ impl fmt::Display for BuildError {
             BuildError::TooLarge => {
                 f.write_str("the texts, or the bytes of markers and chunks, are more than 2^32 - 1")
             }
+            BuildError::AboveLimit { measured, bytes, limit } => {
+                write!(f, "{measured} {bytes} bytes; the limit on header and trailer together is {limit}")
+            }
             BuildError::Broken { number, detail } => {
                 write!(f, "the library answered {number} with {detail}, which it does not have")
             }
@@ -53,6 +65,27 @@ impl fmt::Display for BuildError {
 }
 
 impl Error for BuildError {}
+
+/// What is held to a limit on header and trailer, in this order.
+#[derive(Clone, Copy, Debug, PartialEq, Eq, Hash)]
+pub enum Measured {
+    /// The texts and chunks that are given ([`given_bytes`](crate::given_bytes)). The library was asked nothing.
+    Given,
+    /// The header. The trailer was not measured.
+    Header,
+    /// Header and trailer.
+    HeaderAndTrailer,
+}
+
+impl fmt::Display for Measured {
+    fn fmt(&self, f: &mut fmt::Formatter<'_>) -> fmt::Result {
+        f.write_str(match self {
+            Measured::Given => "texts and chunks that are given have up to",
+            Measured::Header => "the header has",
+            Measured::HeaderAndTrailer => "header and trailer have",
+        })
+    }
+}
 
 /// Why a read gave nothing.
 #[derive(Debug)]

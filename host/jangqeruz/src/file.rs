@@ -9,7 +9,8 @@ use library::sound::Lent;
 
 use crate::FRAME_BYTES_PER_CHANNEL;
 use crate::area::{Area, Kind};
-use crate::errors::{BuildError, ReadError};
+use crate::errors::{BuildError, Measured, ReadError};
+use crate::limit::{given_bytes, within};
 use crate::options::Options;
 use crate::pools::reserve;
 use crate::scratch::Scratch;
@@ -36,7 +37,21 @@ impl<S> File<S> {
     /// The file of an area's range. `lengths` are those of the range's DST frames, none for DSD. Nothing is asked from
     /// the source yet.
     pub fn build(area: &Area, options: &Options, lengths: &[u32], source: S) -> Result<File<S>, BuildError> {
-        let Built { header, trailer, sound } = built(&Inputs::new(area, options)?, lengths)?;
+        File::build_within(u64::MAX, area, options, lengths, source)
+    }
+
+    /// The same file, if header and trailer, which it keeps in memory, have no more than `limit` bytes together.
+    /// What is given is held to the limit first, without asking the library ([`given_bytes`]), then what the library
+    /// measures, before memory is taken for it.
+    pub fn build_within(
+        limit: u64,
+        area: &Area,
+        options: &Options,
+        lengths: &[u32],
+        source: S,
+    ) -> Result<File<S>, BuildError> {
+        within(limit, Measured::Given, given_bytes(area, options))?;
+        let Built { header, trailer, sound } = built(limit, &Inputs::new(area, options)?, lengths)?;
         let mut kept = Vec::new();
         reserve(&mut kept, lengths.len())?;
         kept.extend_from_slice(lengths);
@@ -185,15 +200,21 @@ struct Built {
 }
 
 /// Builds with buffers that have no room first, then with as much as the refusals 40 and 41 tell.
-fn built(inputs: &Inputs, lengths: &[u32]) -> Result<Built, BuildError> {
+fn built(limit: u64, inputs: &Inputs, lengths: &[u32]) -> Result<Built, BuildError> {
     let (mut header, mut trailer) = (Vec::new(), Vec::new());
     let mut answer = [0; ANSWERS];
     let mut number = HEADER_SHORT;
     for _ in 0..3 {
         number = builds::build(&inputs.words, inputs.lent(lengths), &mut header, &mut trailer, &mut answer);
         match number {
-            HEADER_SHORT => grow(&mut header, answer[0])?,
-            TRAILER_SHORT => grow(&mut trailer, answer[0])?,
+            HEADER_SHORT => {
+                within(limit, Measured::Header, answer[0])?;
+                grow(&mut header, answer[0])?;
+            }
+            TRAILER_SHORT => {
+                within(limit, Measured::HeaderAndTrailer, answer[0].saturating_add(header.len() as u64))?;
+                grow(&mut trailer, answer[0])?;
+            }
             _ => break,
         }
     }

@@ -52,6 +52,7 @@ mod area;
 mod chunks;
 mod errors;
 mod file;
+mod limit;
 mod options;
 mod pools;
 mod refusal;
@@ -68,8 +69,9 @@ pub use chunks::{
     ArtistTitle, ArtistTitleSource, CallerChunk, Comment, CommentKind, IndexOffset, InfoChunk, LocalChunk, Marker,
     MarkerKind, PropertyChunk, text_bytes,
 };
-pub use errors::{BuildError, ReadError};
+pub use errors::{BuildError, Measured, ReadError};
 pub use file::File;
+pub use limit::given_bytes;
 pub use options::Options;
 pub use refusals::Refusal;
 pub use scratch::Scratch;

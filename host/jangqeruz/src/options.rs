@@ -29,7 +29,7 @@ pub struct Options {
     pub edited_master: bool,
     /// There is a DIIN with the edited master's information.
     pub edited_master_info: bool,
-    /// The edited master's ID (EMID), bytes 0x20 to 0x7E; `None` for no such chunk. Empty by default.
+    /// The edited master's ID (EMID), up to 1,048,576 bytes 0x20 to 0x7E; `None` for no such chunk. Empty by default.
     pub edited_master_id: Option<Vec<u8>>,
     /// These markers, even if there are none; `None` for those that tracks make.
     pub custom_markers: Option<Vec<Marker>>,
@@ -65,7 +65,7 @@ pub struct Options {
     pub info_order: [InfoChunk; 4],
     /// The order of the file's chunks. Those that are not written need not be named.
     pub local_order: Vec<LocalChunk>,
-    /// The comments.
+    /// The comments. Up to 65,535 are written.
     pub comments: Vec<Comment>,
     /// The caller's own chunks.
     pub chunks: Vec<CallerChunk>,

@@ -5,7 +5,7 @@
 /// Why a build or a read is refused. Each has its number, the words of the rule, and what to do about it.
 #[derive(Clone, Copy, Debug, PartialEq, Eq, Hash)]
 pub enum Refusal {
-    /// 1: A text (EMID and marker texts included) exceeds 65,535 values, or tracks exceed 65,535, caller chunks 255,
+    /// 1: A text (EMID and marker texts included) exceeds 1,048,576 values, or tracks exceed 65,535, caller chunks 255,
     /// custom markers 65,535, or one caller chunk 16,777,216 bytes.
     Limits,
     /// 2: A stretch runs outside its pool.
@@ -266,8 +266,8 @@ impl Refusal {
     pub(crate) fn told(&self) -> Told {
         match self {
             Refusal::Limits => Told {
-                words: "A text (EMID and marker texts included) exceeds 65,535 values, or tracks exceed 65,535, caller chunks 255, custom markers 65,535, or one caller chunk 16,777,216 bytes.",
-                remedy: "Shorten the text or the chunk, or give fewer: at most 65,535 characters a text, 65,535 tracks, 65,535 custom markers, and 255 caller chunks of at most 16,777,216 bytes each.",
+                words: "A text (EMID and marker texts included) exceeds 1,048,576 values, or tracks exceed 65,535, caller chunks 255, custom markers 65,535, or one caller chunk 16,777,216 bytes.",
+                remedy: "Shorten the text or the chunk, or give fewer: at most 1,048,576 characters a text, 65,535 tracks, 65,535 custom markers, and 255 caller chunks of at most 16,777,216 bytes each.",
                 definition: "crates/rules/specs/Limits.antt: limitFaults",
             },
             Refusal::OutsidePool => Told {

@@ -1,6 +1,7 @@
 //! The fields of the chunks, and what is wrong with them (51).
 use crate::bytes::{Bytes, Window};
 use crate::chunk::HEAD;
+use crate::limits::more_than;
 use crate::texts::Texts;
 use crate::{Chunk, Compression, Field, FrameRate, Index, IndexEntry, MOST_FRAMES, Name, Rule, SoundKind, Time, Walk};
 use std::io;
@@ -162,7 +163,7 @@ impl<B: Bytes + ?Sized> Fields<'_, '_, B> {
         let mut index = Index { place: chunk.place, size: chunk.size, entries: vec![] };
         for number in 0..chunk.size / 12 {
             if index.entries.len() >= MOST_FRAMES {
-                self.found.fault(Rule::Limits, chunk.place, "more index entries than this walk keeps".into());
+                self.found.fault(Rule::Limits, chunk.place, more_than(MOST_FRAMES, "index entries"));
                 break;
             }
             let [o0, o1, o2, o3, o4, o5, o6, o7, length @ ..] = self.window.get::<12>(chunk.data() + 12 * number)?;

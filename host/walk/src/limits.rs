@@ -8,3 +8,8 @@ pub const MOST_FRAMES: usize = 1 << 23;
 pub const MOST_TEXT_BYTES: u64 = 1 << 26;
 /// The most faults that are listed.
 pub(crate) const MOST_FAULTS: usize = 1000;
+
+/// The words on a file that has more than is kept.
+pub(crate) fn more_than(most: impl std::fmt::Display, what: &str) -> String {
+    format!("more {what} than {most}, which is a limit of this program, not of the format")
+}

@@ -1,6 +1,7 @@
 //! The chunks of a file as a tree, and the faults of its structure (49).
 use crate::bytes::{Bytes, Window};
 use crate::chunk::HEAD;
+use crate::limits::more_than;
 use crate::{Chunk, Crc, Frame, MOST_CHUNKS, MOST_FRAMES, Name, Rule, Sound, SoundKind, Walk};
 use std::io;
 
@@ -124,7 +125,7 @@ impl<B: Bytes + ?Sized> Walker<'_, '_, B> {
                 b"DSTF" | b"DSTC" if !chunk.fits => {}
                 b"DSTF" => {
                     if sound.frames.len() >= MOST_FRAMES {
-                        self.limit(at, "more DST frames than this walk keeps");
+                        self.limit(at, MOST_FRAMES, "DST frames");
                         break;
                     }
                     sound.frames.push(Frame { place: chunk.data(), length: chunk.size });
@@ -135,7 +136,7 @@ impl<B: Bytes + ?Sized> Walker<'_, '_, B> {
                 }
                 b"DSTC" => {
                     if sound.crcs.len() >= MOST_FRAMES {
-                        self.limit(at, "more CRCs than this walk keeps");
+                        self.limit(at, MOST_FRAMES, "CRCs");
                         break;
                     }
                     let frame = sound.frames.len().checked_sub(1).and_then(|frame| u32::try_from(frame).ok());
@@ -197,7 +198,7 @@ impl<B: Bytes + ?Sized> Walker<'_, '_, B> {
             return false;
         }
         if self.kept >= MOST_CHUNKS {
-            self.limit(chunk.place, "more chunks than this walk keeps");
+            self.limit(chunk.place, MOST_CHUNKS, "chunks");
             return false;
         }
         self.kept += 1;
@@ -205,8 +206,8 @@ impl<B: Bytes + ?Sized> Walker<'_, '_, B> {
         true
     }
 
-    fn limit(&mut self, place: u64, words: &str) {
+    fn limit(&mut self, place: u64, most: usize, what: &str) {
         self.full = true;
-        self.found.fault(Rule::Limits, place, words.into());
+        self.found.fault(Rule::Limits, place, more_than(most, what));
     }
 }

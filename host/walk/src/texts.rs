@@ -1,5 +1,6 @@
 //! Texts: counted ones, markers and comments.
 use crate::bytes::{Bytes, Window};
+use crate::limits::more_than;
 use crate::{Chunk, Comment, MOST_TEXT_BYTES, Marker, Rule, Text, Time, Walk};
 use std::io;
 
@@ -26,7 +27,8 @@ impl Texts {
     ) -> io::Result<Option<Text>> {
         self.taken = self.taken.saturating_add(count);
         if self.taken > MOST_TEXT_BYTES {
-            found.fault(Rule::Limits, chunk, "more bytes of texts than this walk keeps".into());
+            let most = format_args!("{} MiB", MOST_TEXT_BYTES >> 20);
+            found.fault(Rule::Limits, chunk, more_than(most, "bytes of texts"));
             return Ok(None);
         }
         let mut bytes = vec![];

@@ -307,10 +307,12 @@ fn limits() {
     let head = [b"FRM8".as_slice(), &(size - 12).to_be_bytes(), b"DSD "].concat();
     let walked = walk(&Zeros(head.clone(), size)).unwrap();
     let last = walked.faults.last().unwrap();
-    assert_eq!((last.rule, last.words.contains("more chunks")), (Rule::Limits, true));
+    let own = "which is a limit of this program, not of the format";
+    assert_eq!((last.rule, &last.words), (Rule::Limits, &format!("more chunks than 262144, {own}")));
     let text = [head, b"DIIN".to_vec(), (1u64 << 40).to_be_bytes().into(), b"EMID".to_vec()].concat();
     let walked = walk(&Zeros([text, (1u64 << 39).to_be_bytes().to_vec()].concat(), size)).unwrap();
-    assert!(walked.faults.iter().any(|fault| fault.words.contains("more bytes of texts")));
+    let words = format!("more bytes of texts than 64 MiB, {own}");
+    assert!(walked.faults.iter().any(|fault| (fault.rule, &fault.words) == (Rule::Limits, &words)));
     assert!(walked.id.is_none());
 }
 

@@ -3,7 +3,8 @@
 use super::{Carrier, DROP_COMMENTS, DROP_CRCS};
 use crate::Fault;
 use crate::commands::show::{VERSION, count, version_words};
-use jangqeruz::{CallerChunk, IndexOffset, LocalChunk};
+use crate::sources::chunks::{Data, Unread};
+use jangqeruz::{IndexOffset, LocalChunk};
 use walk::{Chunk, Leads, SoundKind};
 
 /// The names that the format has at this place and that no caller's chunk may have (refusal 5).
@@ -87,8 +88,8 @@ impl Carrier<'_> {
     }
 
     /// The order of the chunks, and those that a caller gave.
-    pub(super) fn top(&mut self) -> Result<(), Fault> {
-        let Some(form) = &self.source.walk().form else { return Ok(()) };
+    pub(super) fn top(&mut self) {
+        let Some(form) = &self.source.walk().form else { return };
         if form.chunks.first().is_some_and(|chunk| chunk.name.0 != *b"FVER") {
             self.note("FVER is put first".into());
         }
@@ -103,11 +104,11 @@ impl Carrier<'_> {
                 b"DIIN" => LocalChunk::Diin,
                 b"COMT" => LocalChunk::Comt,
                 _ => {
-                    self.caller(chunk)?;
+                    self.caller(chunk);
                     continue;
                 }
             };
-            moved |= !self.options.chunks.is_empty();
+            moved |= !self.chunks.is_empty();
             let comments = part == LocalChunk::Comt;
             if order.contains(&part) && comments && self.dropped.comments {
                 self.note(format!("COMT at {}, which is a repeated one, is left out", chunk.place));
@@ -122,11 +123,10 @@ impl Carrier<'_> {
             self.note("chunks that are not known here are put behind the others".into());
         }
         self.options.local_order = order;
-        Ok(())
     }
 
     /// A chunk that is not known here, as one of the caller's.
-    fn caller(&mut self, chunk: &Chunk) -> Result<(), Fault> {
+    fn caller(&mut self, chunk: &Chunk) {
         let name = chunk.name.0;
         let is_text = name.iter().all(|byte| (0x20..=0x7E).contains(byte));
         let spaced = name.windows(2).any(|pair| pair[0] == b' ' && pair[1] != b' ');
@@ -134,18 +134,11 @@ impl Carrier<'_> {
             self.fault(chunk.place, format_args!("a chunk named {:?} can't be carried over", chunk.name));
         } else if chunk.size > MOST_CHUNK_BYTES {
             self.fault(chunk.place, format_args!("chunk {} has more than {MOST_CHUNK_BYTES} bytes", chunk.name));
-        } else if self.options.chunks.len() >= MOST_CHUNKS {
+        } else if self.chunks.len() >= MOST_CHUNKS {
             self.fault(chunk.place, format_args!("chunk {} is one more than {MOST_CHUNKS}", chunk.name));
-        } else if self.faults.is_empty() {
-            let memory = || Fault::Output(format!("no memory for the {} bytes of chunk {}", chunk.size, chunk.name));
-            let mut data = vec![];
-            let size = usize::try_from(chunk.size).map_err(|_| memory())?;
-            data.try_reserve_exact(size).map_err(|_| memory())?;
-            data.resize(size, 0);
-            let read = self.source.file().read(chunk.data(), &mut data);
-            read.map_err(|error| Fault::Source(error.to_string()))?;
-            self.options.chunks.push(CallerChunk { name, data });
+        } else {
+            let data = Data::Part { file: self.source.file().clone(), place: chunk.data(), size: chunk.size };
+            self.chunks.push(Unread { name, data });
         }
-        Ok(())
     }
 }

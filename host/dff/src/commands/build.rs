@@ -5,11 +5,9 @@ use crate::copy;
 use crate::folder::{Folder, told};
 use crate::manifest::{Manifest, Planned};
 use crate::output::{Output, check_free, check_named, check_not_read};
-use crate::plans::{Plan, plans};
-use crate::sources::Sound;
+use crate::plans::{Plan, Plans, plans};
 use crate::sources::watched::Watched;
 use crate::{Fault, Ui};
-use jangqeruz::File;
 use rustix::io::Errno;
 use std::path::Path;
 
@@ -17,18 +15,17 @@ pub fn run(args: BuildArgs, ui: &Ui) -> Result<(), Fault> {
     check_named(&args.output, "folder")?;
     let manifest = Manifest::read(&args.manifest)?;
     check_outputs(&manifest, &args, ui.force)?;
-    let plans = plans(&manifest, args.sources.as_deref())?;
-    let notes: Vec<String> = plans.files.iter().flatten().flat_map(Plan::notes).collect();
-    let files = built(plans.files)?;
+    let Plans { files, opened } = plans(&manifest, args.sources.as_deref(), args.limit.max_header)?;
+    let plans = all_planned(files)?;
     let folder = output_folder(&args.output)?;
-    let read: Vec<_> = plans.opened.iter().map(Watched::identity).collect();
+    let read: Vec<_> = opened.iter().map(Watched::identity).collect();
     for Planned { name, .. } in &manifest.files {
         check_not_read(&folder.full(name), &read)?;
     }
-    for note in notes {
+    for note in plans.iter().flat_map(Plan::notes) {
         ui.say(&note)?;
     }
-    for (Planned { name, .. }, file) in manifest.files.iter().zip(files) {
+    for (Planned { name, .. }, Plan { file, .. }) in manifest.files.iter().zip(plans) {
         let shown = folder.full(name).display().to_string();
         let output = Output::create_beneath(&folder, name, ui.force)?;
         copy::write(&file, output, &shown, ui)?;
@@ -58,21 +55,16 @@ fn check_outputs(manifest: &Manifest, args: &BuildArgs, force: bool) -> Result<(
     Fault::all(faults).map_or(Ok(()), Err)
 }
 
-/// The header and trailer of each file.
-fn built(plans: Vec<Result<Plan, Fault>>) -> Result<Vec<File<Box<dyn Sound>>>, Fault> {
-    let (mut files, mut faults) = (Vec::new(), Vec::new());
-    for plan in plans {
-        match plan.and_then(build) {
-            Ok(file) => files.push(file),
+/// The plans of all files, or all that is wrong with any.
+fn all_planned(files: Vec<Result<Plan, Fault>>) -> Result<Vec<Plan>, Fault> {
+    let (mut plans, mut faults) = (Vec::new(), Vec::new());
+    for file in files {
+        match file {
+            Ok(plan) => plans.push(plan),
             Err(fault) => faults.push(fault),
         }
     }
-    Fault::all(faults).map_or(Ok(files), Err)
-}
-
-fn build(plan: Plan) -> Result<File<Box<dyn Sound>>, Fault> {
-    let Plan { label, area, options, lengths, source, .. } = plan;
-    File::build(&area, &options, &lengths, source).map_err(|error| crate::plans::refused(&label, &error))
+    Fault::all(faults).map_or(Ok(plans), Err)
 }
 
 fn output_folder(path: &Path) -> Result<Folder, Fault> {

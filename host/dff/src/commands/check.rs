@@ -8,7 +8,7 @@ use crate::{Fault, Ui};
 pub fn run(args: CheckArgs, ui: &Ui) -> Result<(), Fault> {
     let manifest = Manifest::read(&args.manifest)?;
     let mut faults = Vec::new();
-    for plan in plans(&manifest, args.sources.as_deref())?.files {
+    for plan in plans(&manifest, args.sources.as_deref(), args.limit.max_header)?.files {
         match plan {
             Ok(plan) => {
                 ui.say(&format!("{}: accepted", plan.label))?;

@@ -3,10 +3,10 @@
 use super::entries::{CommentEntry, Entry, MarkerEntry, Order, Replacement, TextOrFalse, TextsEntry, TrackEntry};
 use super::names::Named;
 use super::table::Table;
-use jangqeruz::{ArtistTitle, CallerChunk, Comment, CommentKind, Marker, Options, Track, text_bytes};
+use jangqeruz::{ArtistTitle, Comment, CommentKind, Marker, Options, Track, text_bytes};
 
-/// The entry's options: those that it has, else the defaults.
-pub fn options(entry: &Entry, chunks: Vec<CallerChunk>) -> Options {
+/// The entry's options: those that it has, else the defaults. Its chunks are not read here.
+pub fn options(entry: &Entry) -> Options {
     let default = Options::default();
     let custom = entry.custom_markers.unwrap_or(!entry.marker.is_empty());
     Options {
@@ -50,7 +50,7 @@ pub fn options(entry: &Entry, chunks: Vec<CallerChunk>) -> Options {
             Some(order) => order.iter().map(|Named(chunk)| *chunk).collect(),
         },
         comments: entry.comment.iter().map(comment).collect(),
-        chunks,
+        chunks: default.chunks,
     }
 }
 

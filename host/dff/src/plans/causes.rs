@@ -1,17 +1,16 @@
 //! What a refusal is about, where its words leave open which track or count it is. Nothing is judged here.
 
+use crate::sources::open::MOST_READ;
 use crate::times::counted;
-use jangqeruz::{Area, Options, Refusal, Track};
+use jangqeruz::{Area, BuildError, CallerChunk, Options, Refusal, Track};
 
 /// The line on the cause of a refusal, if there is more to say; `frames` is how many the source has.
-pub fn cause(refusal: &Refusal, area: &Area, options: &Options, frames: u32) -> Option<String> {
+pub fn cause(error: &BuildError, area: &Area, options: &Options, frames: u32) -> Option<String> {
+    let BuildError::Refused(refusal) = error else { return None };
     let Area { first, end, playtime, tracks, .. } = area;
-    let there_are = match tracks.len() {
-        1 => "there is 1 track".to_string(),
-        count => format!("there are {count} tracks"),
-    };
+    let there_are = there_are(tracks.len(), "track");
     match refusal {
-        Refusal::Limits => longest_title(tracks).map(|longest| format!("{there_are}; {longest}")),
+        Refusal::Limits => limited(tracks, options),
         Refusal::LengthsCount if first <= end => None,
         Refusal::LengthsCount | Refusal::Range | Refusal::RangeEmpty => {
             let other = if *playtime == frames { String::new() } else { format!(", the playtime is {playtime}") };
@@ -40,11 +39,57 @@ fn ends(track: &Track) -> u64 {
     u64::from(track.start) + u64::from(track.duration)
 }
 
-fn longest_title(tracks: &[Track]) -> Option<String> {
-    let lengths = tracks.iter().map(|track| track.title.chars().count());
-    let (length, number) = lengths.zip(1u32..).max_by_key(|&(length, number)| (length, u32::MAX - number))?;
-    let characters = if length == 1 { "1 character".into() } else { format!("{length} characters") };
-    Some(format!("the longest title is that of track {number}, {characters}"))
+fn there_are(count: usize, what: &str) -> String {
+    match count {
+        1 => format!("there is 1 {what}"),
+        count => format!("there are {count} {what}s"),
+    }
+}
+
+/// All that has a limit, of what there is.
+fn limited(tracks: &[Track], options: &Options) -> Option<String> {
+    let markers = options.custom_markers.as_ref().map_or(0, Vec::len);
+    let counts = [(tracks.len(), "track"), (markers, "marker")].into_iter().filter(|(count, _)| *count > 0);
+    let counts = counts.map(|(count, what)| there_are(count, what));
+    let parts: Vec<String> = counts.chain(chunks(&options.chunks)).chain(longest_text(tracks, options)).collect();
+    Some(parts.join("; ")).filter(|parts| !parts.is_empty())
+}
+
+/// How many chunks there are, if any, and the bytes of the longest.
+fn chunks(chunks: &[CallerChunk]) -> Option<String> {
+    let longest = chunks.iter().map(|chunk| chunk.data.len()).max()?;
+    let bytes = match longest {
+        1 => "byte",
+        read if read as u64 == MOST_READ => "bytes or more",
+        _ => "bytes",
+    };
+    Some(format!("{}, the longest of {longest} {bytes}", there_are(chunks.len(), "chunk")))
+}
+
+/// The first of the longest texts, if there is any text.
+fn longest_text(tracks: &[Track], options: &Options) -> Option<String> {
+    let Options { album, track, edited_master_id, custom_markers, comments, .. } = options;
+    let characters = |text: &String| text.chars().count();
+    let mut texts: Vec<(String, usize)> = Vec::new();
+    for (what, text) in [
+        ("the album's artist", &album.artist),
+        ("the album's title", &album.title),
+        ("the source track's artist", &track.artist),
+        ("the source track's title", &track.title),
+    ] {
+        texts.extend(text.iter().map(|text| (what.to_string(), characters(text))));
+    }
+    texts.extend(edited_master_id.iter().map(|id| ("edited_master_id".to_string(), id.len())));
+    let mut number = |what: &str, counts: &mut dyn Iterator<Item = usize>| {
+        texts.extend((1u32..).zip(counts).map(|(number, count)| (format!("{what} {number}"), count)));
+    };
+    number("the title of track", &mut tracks.iter().map(|track| characters(&track.title)));
+    number("the text of marker", &mut custom_markers.iter().flatten().map(|marker| marker.text.len()));
+    number("the text of comment", &mut comments.iter().map(|comment| characters(&comment.text)));
+    let longer = |one: (String, usize), other: (String, usize)| if other.1 > one.1 { other } else { one };
+    let (what, count) = texts.into_iter().reduce(longer).filter(|(_, count)| *count > 0)?;
+    let characters = if count == 1 { "1 character".into() } else { format!("{count} characters") };
+    Some(format!("the longest text is {what}, {characters}"))
 }
 
 /// The first track that is empty, or that begins before the one before it ends.

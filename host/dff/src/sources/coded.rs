@@ -35,7 +35,7 @@ impl Lengths {
     /// One length a line, in decimal digits. Empty lines and those that begin with `#` don't count.
     pub fn read(file: &Watched) -> Result<Lengths, Fault> {
         let path = file.path().display();
-        let text = String::from_utf8(file.read_whole(u64::MAX)?);
+        let text = String::from_utf8(file.read_whole()?);
         let text = text.map_err(|_| Fault::Source(format!("{path}: not a text")))?;
         let (mut lengths, mut starts, mut end) = (Vec::new(), vec![0u64], 0u64);
         for (number, line) in text.lines().enumerate() {

@@ -1,5 +1,6 @@
 //! The source that an entry of the manifest names.
 
+use super::chunks::{Data, Unread};
 use super::coded::{Coded, Lengths};
 use super::raw::Raw;
 use super::watched::Watched;
@@ -9,7 +10,7 @@ use crate::folder::{Folder, Relative};
 use crate::manifest::Manifest;
 use crate::manifest::entries::{ChunkEntry, Entry, SourceEntry};
 use crate::manifest::table::Table;
-use jangqeruz::{CallerChunk, text_bytes};
+use jangqeruz::text_bytes;
 use std::cell::RefCell;
 use std::collections::BTreeMap;
 use std::sync::Arc;
@@ -68,22 +69,24 @@ impl<'a> Opener<'a> {
         }
     }
 
-    /// A caller's chunk. Of a file that is larger than any chunk only as much is read as shows that.
-    pub fn chunk(&self, Table(chunk): &Table<ChunkEntry>) -> Result<CallerChunk, Fault> {
+    /// A caller's chunk. Of a file that is larger than any chunk only as much is to be read as shows that.
+    pub fn chunk(&self, Table(chunk): &Table<ChunkEntry>) -> Result<Unread, Fault> {
         let name = <[u8; 4]>::try_from(text_bytes(chunk.name.get_ref()))
             .map_err(|_| self.fault(&chunk.name, "name: a chunk's name has four characters"))?;
         let data = match (&chunk.text, &chunk.hex, &chunk.path) {
-            (Some(text), None, None) => text.get_ref().as_bytes().to_vec(),
+            (Some(text), None, None) => Data::Bytes(text.get_ref().as_bytes().to_vec()),
             (None, Some(hex), None) => {
-                bytes(hex.get_ref()).ok_or_else(|| self.fault(hex, "hex: not pairs of the digits 0 to f"))?
+                let bytes = bytes(hex.get_ref());
+                Data::Bytes(bytes.ok_or_else(|| self.fault(hex, "hex: not pairs of the digits 0 to f"))?)
             }
             (None, None, Some(path)) => {
-                let data = self.watched(path)?.read_whole(LARGEST_CHUNK + 1);
-                data.map_err(|fault| fault.at(&self.manifest.line(path.start())))?
+                let file = self.watched(path)?;
+                let size = file.size().min(MOST_READ);
+                Data::Part { file, place: 0, size }
             }
             _ => return Err(self.fault(&chunk.name, "chunk: just one of `text`, `hex` and `path` is wanted")),
         };
-        Ok(CallerChunk { name, data })
+        Ok(Unread { name, data })
     }
 
     fn relative(&self, name: &Spanned<String>) -> Result<Relative, Fault> {
@@ -141,8 +144,8 @@ impl<'a> Opener<'a> {
     }
 }
 
-/// What a caller's chunk may have at most.
-const LARGEST_CHUNK: u64 = 16_777_216;
+/// So many bytes of a chunk's file are read at most: one more than a caller's chunk may have.
+pub const MOST_READ: u64 = 16_777_216 + 1;
 
 /// The bytes of pairs of hexadecimal digits; spaces and line ends between the digits don't count.
 fn bytes(hex: &str) -> Option<Vec<u8>> {

@@ -108,15 +108,20 @@ impl Watched {
         })
     }
 
-    /// All of it, or as much as `most` bytes.
-    pub fn read_whole(&self, most: u64) -> Result<Vec<u8>, Fault> {
+    /// All of it.
+    pub fn read_whole(&self) -> Result<Vec<u8>, Fault> {
+        self.read_part(0, self.size())
+    }
+
+    /// So many bytes from `offset` on.
+    pub fn read_part(&self, offset: u64, size: u64) -> Result<Vec<u8>, Fault> {
         let mut bytes = Vec::new();
-        let size = usize::try_from(self.size().min(most)).unwrap_or(usize::MAX);
+        let size = usize::try_from(size).unwrap_or(usize::MAX);
         if bytes.try_reserve_exact(size).is_err() {
             return Err(Fault::Source(format!("{}: no memory for {size} bytes", self.path.display())));
         }
         bytes.resize(size, 0);
-        self.read(0, &mut bytes).map_err(|error| Fault::Source(error.to_string()))?;
+        self.read(offset, &mut bytes).map_err(|error| Fault::Source(error.to_string()))?;
         self.still_the_same()?;
         Ok(bytes)
     }

@@ -6,6 +6,7 @@ use crate::chunks::{
     ArtistTitleSource, CallerChunk, Comment, CommentKind, IndexOffset, InfoChunk, LocalChunk, Marker, MarkerKind,
     PropertyChunk,
 };
+use crate::given_bytes;
 
 fn no_area() -> Area {
     Area::new(Kind::Dsd, 0, Layout::Stereo, 0)
@@ -152,4 +153,40 @@ fn rows_and_pools() {
     assert_eq!(lent.comments, said);
     assert_eq!(lent.callers, [0x4142_4344, 6, 2]);
     assert_eq!(lent.lengths, [7]);
+}
+
+/// All that stands in the pools is counted, and nothing besides.
+#[test]
+fn given_bytes_are_those_of_the_pools() {
+    let pools = |area: &Area, options: &Options| {
+        let inputs = inputs(area, options);
+        let lent = inputs.lent(&[]);
+        (lent.pool.len() + lent.raw.len()) as u64
+    };
+    let texts = |a: usize, t: usize| ArtistTitle { artist: Some("é".repeat(a)), title: Some("語".repeat(t)) };
+    let title = |count: usize| Track { start: 0, duration: 1, title: "𝄞".repeat(count) };
+    let marker = |count: usize| Marker { frame: 0, kind: MarkerKind::Index, track_flags: 0, text: vec![0xE9; count] };
+    let comment = |count: usize| Comment {
+        year: 1,
+        month: 1,
+        day: 1,
+        hour: 1,
+        minutes: 1,
+        kind: CommentKind::General,
+        reference: 0,
+        text: "n".repeat(count),
+    };
+    let chunk = |count: usize| CallerChunk { name: *b"ABCD", data: vec![0; count] };
+    assert_eq!(given_bytes(&no_area(), &Options::default()), 0);
+    // Each place has a count of its own: a digit of the sum.
+    let area = Area { tracks: vec![title(0), title(10)], ..no_area() };
+    let options = Options::default()
+        .album(texts(100, 200))
+        .track(texts(1_000, 2_000))
+        .edited_master_id(Some(vec![0x7F; 1]))
+        .custom_markers(Some(vec![marker(20), marker(20)]))
+        .comments(vec![comment(10_000), comment(20_000)])
+        .chunks(vec![chunk(100_000), chunk(200_000)]);
+    assert_eq!(given_bytes(&area, &options), 333_351);
+    assert_eq!(pools(&area, &options), 333_351);
 }

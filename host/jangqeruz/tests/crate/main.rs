@@ -4,6 +4,8 @@ mod draw;
 mod draws;
 mod figures;
 mod index;
+mod limit;
+mod long_texts;
 mod random;
 mod reads;
 mod recording;

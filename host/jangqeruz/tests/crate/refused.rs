@@ -7,6 +7,9 @@ use jangqeruz::{
 
 use crate::sources::Silence;
 
+/// How many values a text may have.
+const LONGEST_TEXT: usize = 1_048_576;
+
 /// What is given to a build.
 struct Given {
     area: Area,
@@ -86,14 +89,25 @@ fn refused_with(refusal: Refusal, given: &mut Given, change: impl FnOnce(&mut Gi
 
 #[test]
 fn limits() {
-    let long = |values| "x".repeat(values);
-    accepted(plain(), |g| g.options.album = ArtistTitle { artist: Some(long(65_535)), title: None });
-    refused(1, plain(), |g| g.options.album = ArtistTitle { artist: Some(long(65_536)), title: None });
-    refused(1, plain(), |g| g.options.track = ArtistTitle { artist: None, title: Some(long(65_536)) });
-    refused(1, plain(), |g| g.options.edited_master_id = Some(vec![0x20; 65_536]));
-    refused(1, plain(), |g| g.options.custom_markers = Some(vec![marker(0, &long(65_536))]));
-    refused(1, plain(), |g| g.options.comments = vec![Comment { text: long(65_536), ..comment() }]);
-    refused(1, plain(), |g| g.area.tracks = vec![Track { title: long(65_536), ..track(0, 75) }]);
+    // A character of one byte in UTF-8, and one of four: what counts is characters.
+    for (values, character) in [(65_536, "x"), (1_048_576, "x"), (1_048_577, "x"), (1_048_576, "𝄞"), (1_048_577, "𝄞")]
+    {
+        let outcome = |change: &dyn Fn(&mut Given)| match values <= LONGEST_TEXT {
+            true => accepted(plain(), change),
+            false => refused(1, plain(), change),
+        };
+        let long = character.repeat(values);
+        let artist_title =
+            |artist: &str, title: &str| ArtistTitle { artist: Some(artist.into()), title: Some(title.into()) };
+        outcome(&|g| g.options.album = artist_title(&long, ""));
+        outcome(&|g| g.options.album = artist_title("", &long));
+        outcome(&|g| g.options.track = artist_title(&long, ""));
+        outcome(&|g| g.options.track = artist_title("", &long));
+        outcome(&|g| g.options.edited_master_id = Some(text_bytes(&long)));
+        outcome(&|g| g.options.custom_markers = Some(vec![marker(0, ""), marker(0, &long)]));
+        outcome(&|g| g.options.comments = vec![comment(), Comment { text: long.clone(), ..comment() }]);
+        outcome(&|g| g.area.tracks = vec![track(0, 75), Track { title: long.clone(), ..track(75, 75) }]);
+    }
     for count in [255, 256, 65_535] {
         accepted(plain(), |g| g.area.tracks = vec![track(0, 75); count]);
     }

@@ -2,11 +2,16 @@
 
 use std::fmt::Write;
 
-/// A text in quotes, its bytes as characters of ISO 8859-1. What a terminal would take as an order is `\xNN`.
+/// Of a longer text only so many bytes are quoted.
+const MOST_QUOTED: usize = 1_000;
+
+/// A text in quotes, its bytes as characters of ISO 8859-1. What a terminal would take as an order is `\xNN`. Of a long
+/// one only the start, and how long it is.
 pub fn quoted(bytes: &[u8]) -> String {
-    let mut text = String::with_capacity(bytes.len() + 2);
+    let start = bytes.get(..MOST_QUOTED).unwrap_or(bytes);
+    let mut text = String::with_capacity(start.len() + 2);
     text.push('"');
-    for &byte in bytes {
+    for &byte in start {
         match byte {
             b'"' | b'\\' => {
                 text.push('\\');
@@ -18,6 +23,9 @@ pub fn quoted(bytes: &[u8]) -> String {
         }
     }
     text.push('"');
+    if start.len() < bytes.len() {
+        let _ = write!(text, " (the first {MOST_QUOTED} of {} bytes)", bytes.len());
+    }
     text
 }
 
