@@ -1,8 +1,8 @@
 // A build. The words are those of `jangqeruz_verdict`.
 ghost use Rattle.std.specs.Prelude.{◌≡◌, set};
 ghost use Rattle.chunk.specs.Append.{overlay};
-ghost use Rattle.words.specs.Inputs.{inputsOfWords};
-ghost use Rattle.words.specs.Border.{wordsFault};
+ghost use Rattle.words.specs.Inputs.{inputs_of_words};
+ghost use Rattle.words.specs.Border.{words_fault};
 ghost use Rattle.abi.specs.Build.{Exported};
 
 // A value at place i, if there is that place.
@@ -38,7 +38,7 @@ pub extern "C" fn jangqeruz_build(
     trailer: &mut [u8],
     answer: &mut [u64],
 ) -> u64
-    ensures { Exported (wordsFault words.now) (inputsOfWords words.now pool.now raw.now tracks.now markers.now comments.now callers.now lengths.now)
+    ensures { Exported (words_fault words.now) (inputs_of_words words.now pool.now raw.now tracks.now markers.now comments.now callers.now lengths.now)
         header.old header.new trailer.old trailer.new answer.old answer.new result }
 {
     let a = word_builds::build::build(

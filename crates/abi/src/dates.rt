@@ -2,15 +2,15 @@
 // its number, 34 or 46, 0 for none.
 ghost use Rattle.std.specs.Prelude.{◌≡◌};
 ghost use Rattle.refusal.specs.Verdict.{number_of};
-ghost use Rattle.calendar.specs.Date.{dateFault, noteFault};
+ghost use Rattle.calendar.specs.Date.{date_fault, note_fault};
 ghost use Rattle.calendar.specs.Order.{earlier};
-ghost use Rattle.calendar.specs.Window.{fallsIn};
-ghost use Rattle.abi.specs.Dates.{stampOfWords, FallsTold};
+ghost use Rattle.calendar.specs.Window.{falls_in};
+ghost use Rattle.abi.specs.Dates.{stamp_of_words, FallsTold};
 
 use calendar::date::Stamp;
 
 fn stamp(words: [u32; 5]) -> Stamp
-    ensures { result ≡ stampOfWords words }
+    ensures { result ≡ stamp_of_words words }
 {
     Stamp {
         year: words[0],
@@ -24,7 +24,7 @@ fn stamp(words: [u32; 5]) -> Stamp
 // What is wrong with a date that a window starts or ends with.
 #[unsafe(no_mangle)]
 pub extern "C" fn jangqeruz_date_fault(date: &[u32; 5]) -> u64
-    ensures { result ≡ number_of (dateFault (stampOfWords date.now)) }
+    ensures { result ≡ number_of (date_fault (stamp_of_words date.now)) }
 {
     let fault = calendar::date::date_fault(stamp(*date));
     fault.number() as u64
@@ -33,7 +33,7 @@ pub extern "C" fn jangqeruz_date_fault(date: &[u32; 5]) -> u64
 // What is wrong with the date of a comment, which may be undated: month and day both 0.
 #[unsafe(no_mangle)]
 pub extern "C" fn jangqeruz_note_fault(note: &[u32; 5]) -> u64
-    ensures { result ≡ number_of (noteFault (stampOfWords note.now)) }
+    ensures { result ≡ number_of (note_fault (stamp_of_words note.now)) }
 {
     let fault = calendar::date::note_fault(stamp(*note));
     fault.number() as u64
@@ -42,7 +42,7 @@ pub extern "C" fn jangqeruz_note_fault(note: &[u32; 5]) -> u64
 // Whether `a` is earlier than `b`, by year, then month, day, hour and minutes. Nothing is refused.
 #[unsafe(no_mangle)]
 pub extern "C" fn jangqeruz_earlier(a: &[u32; 5], b: &[u32; 5]) -> bool
-    ensures { result ≡ earlier (stampOfWords a.now) (stampOfWords b.now) }
+    ensures { result ≡ earlier (stamp_of_words a.now) (stamp_of_words b.now) }
 {
     calendar::order::earlier(stamp(*a), stamp(*b))
 }
@@ -55,7 +55,7 @@ pub extern "C" fn jangqeruz_falls_in(
     end: &[u32; 5],
     note: &[u32; 5],
 ) -> u64
-    ensures { FallsTold (fallsIn (stampOfWords start.now) (stampOfWords end.now) (stampOfWords note.now)) falls.new result }
+    ensures { FallsTold (falls_in (stamp_of_words start.now) (stamp_of_words end.now) (stamp_of_words note.now)) falls.new result }
 {
     let a = calendar::window::falls_in(stamp(*start), stamp(*end), stamp(*note));
     *falls = [a.value()];

@@ -2,9 +2,9 @@
 ghost use Rattle.chunk.specs.Append.{Appended};
 ghost use Rattle.tree.specs.Tree.{bytes};
 ghost use Rattle.master_info.specs.Diin.{diin};
-ghost use Rattle.meanings.specs.Text.{optionsOf};
+ghost use Rattle.meanings.specs.Text.{options_of};
 ghost use Rattle.meanings.specs.Property.{start_of};
-ghost use Rattle.meanings.specs.Diin.{givenText, source_of, infoOrderOf};
+ghost use Rattle.meanings.specs.Diin.{given_text, source_of, info_order_of};
 
 use chunk::Cursor;
 use master_info::diin::Info;
@@ -48,7 +48,7 @@ pub extern "C" fn jangqeruz_diin(
         (bytes (diin pool.now raw.now tracks.now custom.now (record {
           on = on;
           empty_info = empty_info;
-          emid = givenText emid.now;
+          emid = given_text emid.now;
           custom_markers = custom_markers;
           program = record {
             first = first;
@@ -60,12 +60,12 @@ pub extern "C" fn jangqeruz_diin(
             titles = titles;
           };
           start = start_of start_given start_frame;
-          text = optionsOf rule_number replacement empty_text text_pad_counted;
+          text = options_of rule_number replacement empty_text text_pad_counted;
           artist_title = artist_title;
           artist_title_source = source_of source_number;
-          album = record { artist = givenText album_artist.now; title = givenText album_title.now };
-          track = record { artist = givenText track_artist.now; title = givenText track_title.now };
-        }) (infoOrderOf order.now)))
+          album = record { artist = given_text album_artist.now; title = given_text album_title.now };
+          track = record { artist = given_text track_artist.now; title = given_text track_title.now };
+        }) (info_order_of order.now)))
         out.new result }
 {
     let info = Info {

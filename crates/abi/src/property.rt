@@ -2,7 +2,7 @@
 ghost use Rattle.chunk.specs.Append.{Appended};
 ghost use Rattle.tree.specs.Tree.{bytes};
 ghost use Rattle.prop.specs.Property.{property};
-ghost use Rattle.meanings.specs.Property.{soundOf, layout_of, start_of, propertyOrderOf};
+ghost use Rattle.meanings.specs.Property.{sound_of, layout_of, start_of, property_order_of};
 
 use chunk::Cursor;
 use prop::property::Properties;
@@ -26,8 +26,8 @@ pub extern "C" fn jangqeruz_property(
     d1: bool,
 ) -> usize
     ensures { Appended out.old 0
-        (bytes (property (propertyOrderOf order.now) (record {
-          sound = soundOf dst;
+        (bytes (property (property_order_of order.now) (record {
+          sound = sound_of dst;
           layout = layout_of layout_number;
           channels = channels;
           numbers = record { given = numbers_given; count = numbers_count; numbers = numbers.now };

@@ -1,8 +1,8 @@
 // The query and the read of a whole file. DST has one position for each length, DSD has so many `positions`; the other of the two is not looked at. The number of the
 // refusal is answered, 0 for none.
 ghost use Rattle.std.specs.Prelude.{◌≡◌};
-ghost use Rattle.file_query.specs.Query.{queryOf};
-ghost use Rattle.file_read.specs.Read.{requestOf};
+ghost use Rattle.file_query.specs.Query.{query_of};
+ghost use Rattle.file_read.specs.Read.{request_of};
 ghost use Rattle.abi.specs.Reads.{format_of, Queried, ReadAnswered};
 
 use read_rules::format::SoundFormat;
@@ -34,7 +34,7 @@ pub extern "C" fn jangqeruz_query(
     offset: u64,
     room: u64,
 ) -> u64
-    ensures { Queried (queryOf (format_of dst crc channels positions) lengths.now header trailer offset room) range.new result }
+    ensures { Queried (query_of (format_of dst crc channels positions) lengths.now header trailer offset room) range.new result }
 {
     let form = format(dst, crc, channels, positions);
     let a = file_query::query::query(form, lengths, header, trailer, offset, room);
@@ -61,7 +61,7 @@ pub extern "C" fn jangqeruz_read(
     contents: &[u8],
 ) -> u64
     ensures { ReadAnswered
-        (requestOf (format_of dst crc channels positions) lengths.now header.now trailer.now offset lent.now frames.now contents.now)
+        (request_of (format_of dst crc channels positions) lengths.now header.now trailer.now offset lent.now frames.now contents.now)
         out.old out.new filled.new result }
 {
     let form = format(dst, crc, channels, positions);

@@ -2,13 +2,13 @@
 // `out`; the answer is how many bytes it filled, or the largest usize if what is lent is not what the needed positions have.
 ghost use Rattle.std.specs.Prelude.{◌≡◌, [], ◌∷◌, ◌*◌, eqb, length, replicate};
 ghost use Rattle.chunk.specs.Append.{Appended, moved};
-ghost use Rattle.checksum.specs.Crc.{crcOf};
-ghost use Rattle.dst.specs.Frame.{frameBytes, plainBytes, dsdSound};
+ghost use Rattle.checksum.specs.Crc.{crc_of};
+ghost use Rattle.dst.specs.Frame.{frame_bytes, plain_bytes, dsd_sound};
 ghost use Rattle.dst.specs.Unit.{sound, sizes};
-ghost use Rattle.sound_reads.specs.Positions.{positionsFor, number, between};
+ghost use Rattle.sound_reads.specs.Positions.{positions_for, number, between};
 ghost use Rattle.dst.specs.Head.{head};
 ghost use Rattle.dst_index.specs.Index.{shift_of, index};
-ghost use Rattle.sound_reads.specs.Lent.{isLent, framesWith, contentsWith};
+ghost use Rattle.sound_reads.specs.Lent.{is_lent, frames_with, contents_with};
 ghost use Rattle.meanings.specs.Sound.{offset_of};
 ghost use Rattle.abi.specs.Sound.{Count};
 ghost use Rattle.abi.specs.Steps.{count_of};
@@ -29,7 +29,7 @@ fn count(fill: Fill) -> usize
 
 #[unsafe(no_mangle)]
 pub extern "C" fn jangqeruz_crc(content: &[u8]) -> u32
-    ensures { result ≡ crcOf content.now }
+    ensures { result ≡ crc_of content.now }
 {
     checksum::crc::crc(content)
 }
@@ -76,7 +76,7 @@ pub extern "C" fn jangqeruz_dst_positions(
     from: u64,
     count: u64,
 )
-    ensures { range.new ≡ (positionsFor (sizes crc lengths.now) from count).first ∷ (positionsFor (sizes crc lengths.now) from count).end ∷ [] }
+    ensures { range.new ≡ (positions_for (sizes crc lengths.now) from count).first ∷ (positions_for (sizes crc lengths.now) from count).end ∷ [] }
 {
     let p = dst_reads::dst_data::positions(crc, lengths, from, count);
     *range = [p.first, p.end];
@@ -90,7 +90,7 @@ pub extern "C" fn jangqeruz_dsd_positions(
     from: u64,
     count: u64,
 )
-    ensures { range.new ≡ (positionsFor (replicate n (frameBytes channels)) from count).first ∷ (positionsFor (replicate n (frameBytes channels)) from count).end ∷ [] }
+    ensures { range.new ≡ (positions_for (replicate n (frame_bytes channels)) from count).first ∷ (positions_for (replicate n (frame_bytes channels)) from count).end ∷ [] }
 {
     let p = dsd_reads::dsd_data::positions(channels, n, from, count);
     *range = [p.first, p.end];
@@ -108,9 +108,9 @@ pub extern "C" fn jangqeruz_dst_fill(
     contents: &[u8],
 ) -> usize
     ensures { Count
-        (isLent (plainBytes crc channels) (between (positionsFor (sizes crc lengths.now) skip (length out.old)) lengths.now)
+        (is_lent (plain_bytes crc channels) (between (positions_for (sizes crc lengths.now) skip (length out.old)) lengths.now)
         lent.now frames.now contents.now)
-        (sound crc (framesWith (plainBytes crc channels) (positionsFor (sizes crc lengths.now) skip (length out.old)) lengths.now
+        (sound crc (frames_with (plain_bytes crc channels) (positions_for (sizes crc lengths.now) skip (length out.old)) lengths.now
         frames.now contents.now))
         skip out.old out.new result }
 {
@@ -127,8 +127,8 @@ pub extern "C" fn jangqeruz_dsd_fill(
     contents: &[u8],
 ) -> usize
     ensures { Count
-        (eqb (frameBytes channels * number (positionsFor (replicate n (frameBytes channels)) skip (length out.old))) (length contents.now))
-        (dsdSound (contentsWith (frameBytes channels) (positionsFor (replicate n (frameBytes channels)) skip (length out.old)) n contents.now))
+        (eqb (frame_bytes channels * number (positions_for (replicate n (frame_bytes channels)) skip (length out.old))) (length contents.now))
+        (dsd_sound (contents_with (frame_bytes channels) (positions_for (replicate n (frame_bytes channels)) skip (length out.old)) n contents.now))
         skip out.old out.new result }
 {
     let start = Window { at: 0, skip };

@@ -1,10 +1,10 @@
 // Texts. A text is `length` values of `pool` from `start` on. What is written into `out` is what fits of it; the answer is the length of all of it.
 ghost use Rattle.chunk.specs.Append.{Appended};
 ghost use Rattle.texts.specs.Extent.{part};
-ghost use Rattle.texts.specs.Text.{textBytes};
-ghost use Rattle.diin_texts.specs.DiinText.{diinText};
+ghost use Rattle.texts.specs.Text.{text_bytes};
+ghost use Rattle.diin_texts.specs.DiinText.{diin_text};
 ghost use Rattle.comt.specs.Comment.{comt};
-ghost use Rattle.meanings.specs.Text.{ruleOf, optionsOf, text_of};
+ghost use Rattle.meanings.specs.Text.{rule_of, options_of, text_of};
 
 use chunk::Cursor;
 use texts::extent::Extent;
@@ -19,7 +19,7 @@ pub extern "C" fn jangqeruz_text_bytes(
     rule_number: u8,
     replacement: u8,
 ) -> usize
-    ensures { Appended out.old 0 (textBytes (ruleOf rule_number replacement) (part pool.now (record { start = start; length = length }))) out.new result }
+    ensures { Appended out.old 0 (text_bytes (rule_of rule_number replacement) (part pool.now (record { start = start; length = length }))) out.new result }
 {
     let c = Cursor::new();
     let end = texts::text::text_bytes(
@@ -50,8 +50,8 @@ pub extern "C" fn jangqeruz_diin_text(
     text_pad_counted: bool,
 ) -> usize
     ensures { Appended out.old 0
-        (diinText id.now pool.now (text_of given start length)
-        (optionsOf rule_number replacement empty_text text_pad_counted))
+        (diin_text id.now pool.now (text_of given start length)
+        (options_of rule_number replacement empty_text text_pad_counted))
         out.new result }
 {
     let options = meanings::text::options(rule_number, replacement, empty_text, text_pad_counted);
@@ -80,7 +80,7 @@ pub extern "C" fn jangqeruz_comt(
 ) -> usize
     ensures { Appended out.old 0
         (comt pool.now rows.now
-        (optionsOf rule_number replacement empty_text text_pad_counted))
+        (options_of rule_number replacement empty_text text_pad_counted))
         out.new result }
 {
     let options = meanings::text::options(rule_number, replacement, empty_text, text_pad_counted);

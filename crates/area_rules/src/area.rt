@@ -1,6 +1,6 @@
 // The area and its range (6 to 12).
 ghost use Rattle.std.specs.Prelude.{◌≡◌};
-ghost use Rattle.area_rules.specs.Area.{lengthsWanted, areaFault, lengthsFault, rangeFault, areaFaults};
+ghost use Rattle.area_rules.specs.Area.{lengths_wanted, area_fault, lengths_fault, range_fault, area_faults};
 
 use build_options::area::{Area, is_dst};
 use refusal::verdict::{Verdict, refuse_if};
@@ -10,7 +10,7 @@ pub(crate) const LONGEST_PLAYTIME: u32 = 1_151_999;
 
 // How many lengths are to be given: one a position for DST, none for DSD.
 fn lengths_wanted(area: Area) -> u32
-    ensures { result ≡ lengthsWanted area }
+    ensures { result ≡ lengths_wanted area }
 {
     let sound = area.sound;
     if is_dst(sound) {
@@ -21,7 +21,7 @@ fn lengths_wanted(area: Area) -> u32
 
 // 6 to 8
 fn area_fault(area: Area) -> Verdict
-    ensures { result ≡ areaFault area }
+    ensures { result ≡ area_fault area }
 {
     let layout = area.layout;
     let channels = area.channels;
@@ -34,7 +34,7 @@ fn area_fault(area: Area) -> Verdict
 
 // 9 and 10
 fn lengths_fault(area: Area, lengths: &[u32]) -> Verdict
-    ensures { result ≡ lengthsFault area lengths.now }
+    ensures { result ≡ lengths_fault area lengths.now }
 {
     let sound = area.sound;
     let turned = is_dst(sound) & (area.end < area.first);
@@ -46,7 +46,7 @@ fn lengths_fault(area: Area, lengths: &[u32]) -> Verdict
 
 // 11 and 12
 fn range_fault(area: Area) -> Verdict
-    ensures { result ≡ rangeFault area }
+    ensures { result ≡ range_fault area }
 {
     let v11 = refuse_if((area.end < area.first) | (area.playtime < area.end), 11, 0);
     let v12 = refuse_if(area.first == area.end, 12, 0);
@@ -55,7 +55,7 @@ fn range_fault(area: Area) -> Verdict
 
 // 6 to 12
 pub fn area_faults(area: Area, lengths: &[u32]) -> Verdict
-    ensures { result ≡ areaFaults area lengths.now }
+    ensures { result ≡ area_faults area lengths.now }
 {
     let a = area_fault(area);
     let b = lengths_fault(area, lengths);

@@ -1,6 +1,6 @@
 // The source track (13, 14), and what an edited master asks (15 to 23).
 ghost use Rattle.std.specs.Prelude.{◌≡◌};
-ghost use Rattle.area_rules.specs.Master.{last_end, sourceFault, masterAreaFault, masterTracksFault, masterOptionsFault, editedMasterFault, trackFaults};
+ghost use Rattle.area_rules.specs.Master.{last_end, source_fault, master_area_fault, master_tracks_fault, master_options_fault, edited_master_fault, track_faults};
 
 use crate::area::LONGEST_PLAYTIME;
 use build_options::area::{Area, is_unspecified};
@@ -13,7 +13,7 @@ const MOST_MASTER_TRACKS: usize = 255;
 
 // 13 and 14
 fn source_fault(area: Area, tracks: &[u32], source_track: u16) -> Verdict
-    ensures { result ≡ sourceFault area tracks.now source_track }
+    ensures { result ≡ source_fault area tracks.now source_track }
 {
     if source_track == 0 {
         return Verdict::Accepted;
@@ -30,7 +30,7 @@ fn source_fault(area: Area, tracks: &[u32], source_track: u16) -> Verdict
 
 // 15 to 17
 fn master_area_fault(area: Area, tracks: &[u32]) -> Verdict
-    ensures { result ≡ masterAreaFault area tracks.now }
+    ensures { result ≡ master_area_fault area tracks.now }
 {
     let layout = area.layout;
     let kind = Row::Track;
@@ -56,7 +56,7 @@ fn last_end(tracks: &[u32]) -> u32
 
 // 18 to 20
 fn master_tracks_fault(tracks: &[u32]) -> Verdict
-    ensures { result ≡ masterTracksFault tracks.now }
+    ensures { result ≡ master_tracks_fault tracks.now }
 {
     let v18 = rows::durations::short_tracks(tracks);
     let v19 = refuse_if(!tracks::order::exact(tracks), 19, 0);
@@ -66,7 +66,7 @@ fn master_tracks_fault(tracks: &[u32]) -> Verdict
 
 // 21 to 23
 fn master_options_fault(o: Options) -> Verdict
-    ensures { result ≡ masterOptionsFault o }
+    ensures { result ≡ master_options_fault o }
 {
     let v21 = refuse_if(o.custom_markers, 21, 0);
     let v22 = refuse_if(!o.loudspeaker_configuration, 22, 0);
@@ -76,7 +76,7 @@ fn master_options_fault(o: Options) -> Verdict
 
 // 15 to 23
 fn check_edited_master(area: Area, o: Options, tracks: &[u32]) -> Verdict
-    ensures { result ≡ editedMasterFault area o tracks.now }
+    ensures { result ≡ edited_master_fault area o tracks.now }
 {
     let a = master_area_fault(area, tracks);
     let b = master_tracks_fault(tracks);
@@ -87,7 +87,7 @@ fn check_edited_master(area: Area, o: Options, tracks: &[u32]) -> Verdict
 
 // 13 to 23
 pub fn track_faults(area: Area, o: Options, s: Settings, tracks: &[u32]) -> Verdict
-    ensures { result ≡ trackFaults area o s tracks.now }
+    ensures { result ≡ track_faults area o s tracks.now }
 {
     let a = source_fault(area, tracks, s.source_track);
     let b = check_edited_master(area, o, tracks);

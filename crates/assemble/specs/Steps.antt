@@ -3,8 +3,8 @@
 use Rattle.std.specs.Prelude.{List, ℕ}
 use Rattle.build_options.specs.Inputs.{Inputs}
 use Rattle.build_answer.specs.declared.answer.Answer.{Answer}
-use Rattle.assemble.specs.Build.{roomFault, Outcome}
+use Rattle.assemble.specs.Build.{room_fault, Outcome}
 
 -- what is left to do of accepted inputs
 abbrev pub LaysOut : Inputs → List ℕ → List ℕ → List ℕ → List ℕ → Answer → Type 0
-LaysOut x h h' t t' r = Outcome x (roomFault x h t) h h' t t' r
+LaysOut x h h' t t' r = Outcome x (room_fault x h t) h h' t t' r

@@ -1,7 +1,7 @@
 // A build: the verdict on its inputs, the lengths of what is to be written, and then the writing.
 ghost use Rattle.std.specs.Prelude.{◌≡◌};
 ghost use Rattle.refusal.specs.declared.verdict.Verdict.TheVariants.{Accepted};
-ghost use Rattle.build_options.specs.Inputs.{inputsOf};
+ghost use Rattle.build_options.specs.Inputs.{inputs_of};
 ghost use Rattle.checks.specs.InputVerdict.{verdict};
 ghost use Rattle.assemble.specs.Build.{Builds};
 ghost use Rattle.assemble.specs.Steps.{LaysOut};
@@ -30,8 +30,8 @@ fn lay_out(
     header: &mut [u8],
     trailer: &mut [u8],
 ) -> Answer
-    requires { verdict (inputsOf area options property_order info_order local_order local_count pool.now raw.now tracks.now markers.now comments.now callers.now lengths.now) ≡ Accepted }
-    ensures { LaysOut (inputsOf area options property_order info_order local_order local_count pool.now raw.now tracks.now markers.now comments.now callers.now lengths.now)
+    requires { verdict (inputs_of area options property_order info_order local_order local_count pool.now raw.now tracks.now markers.now comments.now callers.now lengths.now) ≡ Accepted }
+    ensures { LaysOut (inputs_of area options property_order info_order local_order local_count pool.now raw.now tracks.now markers.now comments.now callers.now lengths.now)
         header.old header.new trailer.old trailer.new result }
 {
     let m = header_trailer::measure::measure(
@@ -104,7 +104,7 @@ pub fn build_rows(
     header: &mut [u8],
     trailer: &mut [u8],
 ) -> Answer
-    ensures { Builds (inputsOf area options property_order info_order local_order local_count pool.now raw.now tracks.now markers.now comments.now callers.now lengths.now)
+    ensures { Builds (inputs_of area options property_order info_order local_order local_count pool.now raw.now tracks.now markers.now comments.now callers.now lengths.now)
         header.old header.new trailer.old trailer.new result }
 {
     let v = checks::verdict::verdict(

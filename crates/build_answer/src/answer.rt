@@ -1,6 +1,6 @@
 // The answer of a build.
 ghost use Rattle.std.specs.Prelude.{◌≡◌};
-ghost use Rattle.build_answer.specs.Answer.{buildNumber, buildValues};
+ghost use Rattle.build_answer.specs.Answer.{build_number, build_values};
 
 // What a build answers.
 #[derive(Drop)]
@@ -19,7 +19,7 @@ pub enum Answer {
 impl Answer {
     // Document 01's number, 0 where nothing is refused.
     pub fn number(self) -> u8
-        ensures { result ≡ buildNumber self }
+        ensures { result ≡ build_number self }
     {
         match self {
             Answer::Built {
@@ -37,7 +37,7 @@ impl Answer {
 
     // The lengths of header, sound and trailer, or the detail of a refusal and zeros.
     pub fn values(self) -> [u64; 3]
-        ensures { result ≡ buildValues self }
+        ensures { result ≡ build_values self }
     {
         match self {
             Answer::Built {

@@ -7,12 +7,12 @@ use Rattle.prop_fields.specs.declared.layout.Layout.{Layout}
 use Rattle.prop_fields.specs.declared.layout.Layout.TheVariants.{Stereo, ThreeTwo, FivePointOne, Unspecified}
 
 -- the positions of the range, none if it is turned round
-abbrev pub areaPositions : Area → ℕ
-areaPositions a = a.end - a.first
+abbrev pub area_positions : Area → ℕ
+area_positions a = a.end - a.first
 
-abbrev pub isDst : Sound → Bool
-isDst Dsd = false
-isDst Dst = true
+abbrev pub is_dst : Sound → Bool
+is_dst Dsd = false
+is_dst Dst = true
 
 abbrev pub unspecified : Layout → Bool
 unspecified Stereo = false

@@ -9,10 +9,10 @@ use Rattle.build_options.specs.declared.options.Options.{Options}
 pub record Inputs : Type 0 where
   pub area : Area
   pub options : Options
-  pub propertyOrder : List PropertyChunk
-  pub infoOrder : List InfoChunk
-  pub localOrder : List LocalChunk
-  pub localCount : ℕ
+  pub property_order : List PropertyChunk
+  pub info_order : List InfoChunk
+  pub local_order : List LocalChunk
+  pub local_count : ℕ
   -- the text pool and the byte pool
   pub pool : List ℕ
   pub raw : List ℕ
@@ -25,14 +25,14 @@ pub record Inputs : Type 0 where
   pub lengths : List ℕ
 
 -- all of it, one by one
-abbrev pub inputsOf : Area → Options → List PropertyChunk → List InfoChunk → List LocalChunk → ℕ → List ℕ → List ℕ → List ℕ → List ℕ → List ℕ → List ℕ → List ℕ → Inputs
-inputsOf area options propertyOrder infoOrder localOrder localCount pool raw tracks markers comments callers lengths = record {
+abbrev pub inputs_of : Area → Options → List PropertyChunk → List InfoChunk → List LocalChunk → ℕ → List ℕ → List ℕ → List ℕ → List ℕ → List ℕ → List ℕ → List ℕ → Inputs
+inputs_of area options property_order info_order local_order local_count pool raw tracks markers comments callers lengths = record {
   area = area;
   options = options;
-  propertyOrder = propertyOrder;
-  infoOrder = infoOrder;
-  localOrder = localOrder;
-  localCount = localCount;
+  property_order = property_order;
+  info_order = info_order;
+  local_order = local_order;
+  local_count = local_count;
   pool = pool;
   raw = raw;
   tracks = tracks;

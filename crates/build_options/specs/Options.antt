@@ -8,7 +8,7 @@ use Rattle.texts.specs.declared.text.TextOptions.{TextOptions}
 use Rattle.diin_texts.specs.declared.diin_text.Text.{Text}
 use Rattle.diin_texts.specs.declared.diin_text.Text.TheVariants as text
 use Rattle.dst_index.specs.declared.index.DstIndexOffset.TheVariants.{ChunkHeader}
-use Rattle.prop_fields.specs.Start.{startFrame}
+use Rattle.prop_fields.specs.Start.{start_frame}
 use Rattle.prop_fields.specs.declared.start.Start.{Start}
 use Rattle.prop_fields.specs.declared.start.Start.TheVariants.{Absent, Given}
 use Rattle.tracks.specs.declared.order.ProgramOptions.{ProgramOptions}
@@ -23,8 +23,8 @@ use Rattle.build_options.specs.declared.options.Replacement.TheVariants.{Nothing
 use Rattle.build_options.specs.declared.options.Options.{Options}
 use Rattle.build_options.specs.declared.options.Settings.{Settings}
 
-abbrev noTexts : ArtistTitle
-noTexts = record { artist = text.Absent; title = text.Absent }
+abbrev no_texts : ArtistTitle
+no_texts = record { artist = text.Absent; title = text.Absent }
 
 -- the defaults of the Rust; no source track and no tags, where it asks the TOC
 unfoldable pub defaults : Options
@@ -48,8 +48,8 @@ defaults = record {
   text_pad_counted = false;
   artist_title = Unset;
   artist_title_source = Album;
-  album = noTexts;
-  track = noTexts;
+  album = no_texts;
+  track = no_texts;
   text_replacement = Byte 0x3F;
   empty_text = false;
   empty_info = true;
@@ -58,24 +58,24 @@ defaults = record {
 }
 
 -- whether a switch is on; one that is unset stands as told
-abbrev pub isOn : Switch → Bool → Bool
-isOn Unset unset = unset
-isOn On unset = true
-isOn Off unset = false
+abbrev pub is_on : Switch → Bool → Bool
+is_on Unset unset = unset
+is_on On unset = true
+is_on Off unset = false
 
 -- a start that is missing becomes 0
-abbrev pub startOrZero : Start → Start
-startOrZero start = Given (startFrame start)
+abbrev pub start_or_zero : Start → Start
+start_or_zero start = Given (start_frame start)
 
 -- what holds in the end
 unfoldable pub effective : Options → Settings
 effective o =
     cond o.edited_master
-    (record { start = startOrZero o.absolute_start; info = true; artist_title = isOn o.artist_title true; source_track = 0 })
+    (record { start = start_or_zero o.absolute_start; info = true; artist_title = is_on o.artist_title true; source_track = 0 })
     (record {
       start = o.absolute_start;
       info = o.edited_master_info;
-      artist_title = isOn o.artist_title false;
+      artist_title = is_on o.artist_title false;
       source_track = o.source_track;
     })
 
@@ -84,19 +84,19 @@ abbrev pub replaced : Replacement → TextRule
 replaced Nothing = Remove
 replaced (Byte b) = Replace b
 
-abbrev pub textRule : Bool → Replacement → TextRule
-textRule d2 replacement = cond d2 D2 (replaced replacement)
+abbrev pub text_rule : Bool → Replacement → TextRule
+text_rule d2 replacement = cond d2 D2 (replaced replacement)
 
-abbrev pub textOptions : Options → TextOptions
-textOptions o = record {
-  rule = textRule o.d2 o.text_replacement;
+abbrev pub text_options : Options → TextOptions
+text_options o = record {
+  rule = text_rule o.d2 o.text_replacement;
   empty_text = o.empty_text;
   text_pad_counted = o.text_pad_counted;
 }
 
 -- what decides the markers that are made from tracks
-abbrev pub programOptions : Area → Options → Settings → ProgramOptions
-programOptions area o s = record {
+abbrev pub program_options : Area → Options → Settings → ProgramOptions
+program_options area o s = record {
   first = area.first;
   end = area.end;
   playtime = area.playtime;
@@ -107,19 +107,19 @@ programOptions area o s = record {
 }
 
 -- EMID's bytes, if it is written
-abbrev pub idText : Bool → Extent → Text
-idText written id = cond written (text.Given id) text.Absent
+abbrev pub id_text : Bool → Extent → Text
+id_text written id = cond written (text.Given id) text.Absent
 
 -- what DIIN tells
-abbrev pub infoOf : Area → Options → Settings → Info
-infoOf area o s = record {
+abbrev pub info_of : Area → Options → Settings → Info
+info_of area o s = record {
   on = s.info;
   empty_info = o.empty_info;
-  emid = idText o.edited_master_id_written o.edited_master_id;
+  emid = id_text o.edited_master_id_written o.edited_master_id;
   custom_markers = o.custom_markers;
-  program = programOptions area o s;
+  program = program_options area o s;
   start = s.start;
-  text = textOptions o;
+  text = text_options o;
   artist_title = s.artist_title;
   artist_title_source = o.artist_title_source;
   album = o.album;
@@ -127,22 +127,22 @@ infoOf area o s = record {
 }
 
 -- the extent of a text; of one that is missing, an empty one
-abbrev pub textExtent : Text → Extent
-textExtent text.Absent = record { start = 0; length = 0 }
-textExtent (text.Given e) = e
+abbrev pub text_extent : Text → Extent
+text_extent text.Absent = record { start = 0; length = 0 }
+text_extent (text.Given e) = e
 
 -- extents as rows of two words
-abbrev pub idRow : Extent → List ℕ
-idRow e = e.start ∷ e.length ∷ []
+abbrev pub id_row : Extent → List ℕ
+id_row e = e.start ∷ e.length ∷ []
 
-abbrev pub tagRows : ArtistTitle → ArtistTitle → List ℕ
-tagRows album track =
-    (textExtent album.artist).start
-    ∷ (textExtent album.artist).length
-    ∷ (textExtent album.title).start
-    ∷ (textExtent album.title).length
-    ∷ (textExtent track.artist).start
-    ∷ (textExtent track.artist).length
-    ∷ (textExtent track.title).start
-    ∷ (textExtent track.title).length
+abbrev pub tag_rows : ArtistTitle → ArtistTitle → List ℕ
+tag_rows album track =
+    (text_extent album.artist).start
+    ∷ (text_extent album.artist).length
+    ∷ (text_extent album.title).start
+    ∷ (text_extent album.title).length
+    ∷ (text_extent track.artist).start
+    ∷ (text_extent track.artist).length
+    ∷ (text_extent track.title).start
+    ∷ (text_extent track.title).length
     ∷ []

@@ -1,6 +1,6 @@
 // The area that is written, and its range.
 ghost use Rattle.std.specs.Prelude.{◌≡◌};
-ghost use Rattle.build_options.specs.Area.{areaPositions, isDst, unspecified};
+ghost use Rattle.build_options.specs.Area.{area_positions, is_dst, unspecified};
 
 use prop_fields::compression::Sound;
 use prop_fields::layout::Layout;
@@ -18,7 +18,7 @@ pub struct Area {
 impl Area {
     // The positions of the range, none if it is turned round.
     pub fn positions(self) -> u32
-        ensures { result ≡ areaPositions self }
+        ensures { result ≡ area_positions self }
     {
         if self.end < self.first {
             return 0;
@@ -28,7 +28,7 @@ impl Area {
 }
 
 pub fn is_dst(sound: Sound) -> bool
-    ensures { result ≡ isDst sound }
+    ensures { result ≡ is_dst sound }
 {
     match sound {
         Sound::Dsd => {

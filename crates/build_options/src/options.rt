@@ -1,6 +1,6 @@
 // The options of a build, their defaults, and what an edited master changes of them.
 ghost use Rattle.std.specs.Prelude.{◌≡◌};
-ghost use Rattle.build_options.specs.Options.{idText, textExtent, defaults, effective, startOrZero, isOn, textRule, textOptions, infoOf, programOptions, tagRows, idRow};
+ghost use Rattle.build_options.specs.Options.{id_text, text_extent, defaults, effective, start_or_zero, is_on, text_rule, text_options, info_of, program_options, tag_rows, id_row};
 
 use crate::area::Area;
 use diin_texts::diin_text::Text;
@@ -116,7 +116,7 @@ pub fn defaults() -> Options
 
 // Whether a switch is on; one that is unset stands as told.
 fn is_on(switch: Switch, unset: bool) -> bool
-    ensures { result ≡ isOn switch unset }
+    ensures { result ≡ is_on switch unset }
 {
     match switch {
         Switch::Unset => {
@@ -133,7 +133,7 @@ fn is_on(switch: Switch, unset: bool) -> bool
 
 // A start that is missing becomes 0.
 fn start_of(start: Start) -> Start
-    ensures { result ≡ startOrZero start }
+    ensures { result ≡ start_or_zero start }
 {
     Start::Given(start.frame())
 }
@@ -163,7 +163,7 @@ pub fn effective(o: Options) -> Settings
 
 // How values become text bytes. Under D2 the replacement is idle.
 fn rule_of(d2: bool, replacement: Replacement) -> TextRule
-    ensures { result ≡ textRule d2 replacement }
+    ensures { result ≡ text_rule d2 replacement }
 {
     if d2 {
         return TextRule::D2;
@@ -179,7 +179,7 @@ fn rule_of(d2: bool, replacement: Replacement) -> TextRule
 }
 
 pub fn text_options(o: Options) -> TextOptions
-    ensures { result ≡ textOptions o }
+    ensures { result ≡ text_options o }
 {
     let replacement = o.text_replacement;
     TextOptions {
@@ -191,7 +191,7 @@ pub fn text_options(o: Options) -> TextOptions
 
 // What decides the markers that are made from tracks.
 fn program_options(area: Area, o: Options, s: Settings) -> ProgramOptions
-    ensures { result ≡ programOptions area o s }
+    ensures { result ≡ program_options area o s }
 {
     ProgramOptions {
         first: area.first,
@@ -206,7 +206,7 @@ fn program_options(area: Area, o: Options, s: Settings) -> ProgramOptions
 
 // What DIIN tells.
 pub fn info_of(area: Area, o: Options, s: Settings) -> Info
-    ensures { result ≡ infoOf area o s }
+    ensures { result ≡ info_of area o s }
 {
     let id = o.edited_master_id;
     let emid = id_text(o.edited_master_id_written, id);
@@ -233,7 +233,7 @@ pub fn info_of(area: Area, o: Options, s: Settings) -> Info
 
 // EMID's bytes, if it is written.
 fn id_text(written: bool, id: Extent) -> Text
-    ensures { result ≡ idText written id }
+    ensures { result ≡ id_text written id }
 {
     if written {
         return Text::Given(id);
@@ -243,7 +243,7 @@ fn id_text(written: bool, id: Extent) -> Text
 
 // The extent of a text; of one that is missing, an empty one.
 fn extent_of(text: Text) -> Extent
-    ensures { result ≡ textExtent text }
+    ensures { result ≡ text_extent text }
 {
     match text {
         Text::Absent => {
@@ -260,7 +260,7 @@ fn extent_of(text: Text) -> Extent
 
 // The extents of the artists and titles, as rows.
 pub fn tag_rows(album: ArtistTitle, track: ArtistTitle) -> [u32; 8]
-    ensures { result ≡ tagRows album track }
+    ensures { result ≡ tag_rows album track }
 {
     let a = album.artist;
     let b = album.title;
@@ -277,7 +277,7 @@ pub fn tag_rows(album: ArtistTitle, track: ArtistTitle) -> [u32; 8]
 
 // The extent of EMID's bytes, as a row.
 pub fn id_row(id: Extent) -> [u32; 2]
-    ensures { result ≡ idRow id }
+    ensures { result ≡ id_row id }
 {
     [id.start, id.length]
 }

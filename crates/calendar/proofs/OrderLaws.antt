@@ -8,7 +8,7 @@ use native.Mathlib.Omega.{arith}
 use lib.ListN.{length, get_or}
 use borrow.Author.Tests.{lt-ltb, le-ltb, eq-eqb, ne_eqb}
 use Rattle.calendar.specs.declared.date.Stamp.{Stamp}
-use Rattle.calendar.specs.Order.{lower, unitsOf, earlier, StrictAndTotal}
+use Rattle.calendar.specs.Order.{lower, units_of, earlier, StrictAndTotal}
 
 -- two numbers
 data Compared (x y : ℕ) : Type 0 where
@@ -41,10 +41,10 @@ module _ (x y : ℕ) (xs ys : List ℕ) where
 pub not-true : {A : Type 0} {b : Bool} → b ≡ false → b ≡ true → A
 not-true f t = absurd (true≢false (sym t ∙ f))
 
-lower-self : (xs : List ℕ) → lower xs xs ≡ false
+lower_self : (xs : List ℕ) → lower xs xs ≡ false
 unfolding lower
-lower-self [] = refl
-lower-self (x ∷ xs) = by_equal x x xs xs refl ∙ lower-self xs
+lower_self [] = refl
+lower_self (x ∷ xs) = by_equal x x xs xs refl ∙ lower_self xs
 
 lower-onward : (xs ys zs : List ℕ) → lower xs ys ≡ true → lower ys zs ≡ true → lower xs zs ≡ true
 unfolding lower
@@ -78,23 +78,23 @@ lower-total (x ∷ xs) (y ∷ ys) h p q = go (lower-total xs ys (omega arith)) (
 abbrev made : List ℕ → Stamp
 made units = record { year = get_or units 0 0; month = get_or units 1 0; day = get_or units 2 0; hour = get_or units 3 0; minutes = get_or units 4 0 }
 
-same_units : (a b : Stamp) → unitsOf a ≡ unitsOf b → a ≡ b
+same_units : (a b : Stamp) → units_of a ≡ units_of b → a ≡ b
 same_units a b e = ap made e
 
 onward : (a b c : Stamp) → earlier a b ≡ true → earlier b c ≡ true → earlier a c ≡ true
-onward a b c p q = lower-onward (unitsOf a) (unitsOf b) (unitsOf c) p q
+onward a b c p q = lower-onward (units_of a) (units_of b) (units_of c) p q
 
 not-both : (a b : Stamp) → earlier a b ≡ true → earlier b a ≡ false
 not-both a b p = go (earlier b a) refl
   where
     go : (t : Bool) → earlier b a ≡ t → t ≡ false
-    go true q = not-true (lower-self (unitsOf a)) (onward a b a p q)
+    go true q = not-true (lower_self (units_of a)) (onward a b a p q)
     go false q = refl
 
-pub strict-and-total : StrictAndTotal
-strict-and-total = record {
-  not_itself = λ a. lower-self (unitsOf a);
+pub strict_and-total : StrictAndTotal
+strict_and-total = record {
+  not_itself = λ a. lower_self (units_of a);
   not-both = not-both;
   onward = onward;
-  total = λ a b p q. same_units a b (lower-total (unitsOf a) (unitsOf b) refl p q);
+  total = λ a b p q. same_units a b (lower-total (units_of a) (units_of b) refl p q);
 }

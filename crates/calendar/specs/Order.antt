@@ -9,11 +9,11 @@ lower (x ∷ xs) [] = false
 lower (x ∷ xs) (y ∷ ys) = ltb x y || (eqb x y && lower xs ys)
 
 -- a stamp's numbers, the largest unit first
-abbrev pub unitsOf : Stamp → List ℕ
-unitsOf s = s.year ∷ s.month ∷ s.day ∷ s.hour ∷ s.minutes ∷ []
+abbrev pub units_of : Stamp → List ℕ
+units_of s = s.year ∷ s.month ∷ s.day ∷ s.hour ∷ s.minutes ∷ []
 
 abbrev pub earlier : Stamp → Stamp → Bool
-earlier a b = lower (unitsOf a) (unitsOf b)
+earlier a b = lower (units_of a) (units_of b)
 
 -- THE STATEMENT: a strict order, and a total one. It holds of all stamps, those of dates among them
 pub record StrictAndTotal : Type 0 where

@@ -7,30 +7,30 @@ use Rattle.refusal.specs.Verdict.{first_of}
 use Rattle.calendar.specs.declared.date.Stamp.{Stamp}
 use Rattle.calendar.specs.declared.window.Falls.{Falls}
 use Rattle.calendar.specs.declared.window.Falls.TheVariants as falls
-use Rattle.calendar.specs.Date.{isUndated, dateFault, noteFault}
+use Rattle.calendar.specs.Date.{is_undated, date_fault, note_fault}
 use Rattle.calendar.specs.Order.{earlier}
 
 -- dated, not before the start, and before the end
-abbrev pub isInside : Stamp → Stamp → Stamp → Bool
-isInside start end note = not (isUndated note) && (not (earlier note start) && earlier note end)
+abbrev pub is_inside : Stamp → Stamp → Stamp → Bool
+is_inside start end note = not (is_undated note) && (not (earlier note start) && earlier note end)
 
-abbrev pub windowFault : Stamp → Stamp → Stamp → Verdict
-windowFault start end note = first_of (dateFault start ∷ dateFault end ∷ noteFault note ∷ [])
+abbrev pub window_fault : Stamp → Stamp → Stamp → Verdict
+window_fault start end note = first_of (date_fault start ∷ date_fault end ∷ note_fault note ∷ [])
 
 -- what is told where nothing is refused
-abbrev pub toldUnless : Verdict → Bool → Falls
-toldUnless Accepted inside = falls.Told inside
-toldUnless (Refused number detail) inside = falls.Refused number detail
+abbrev pub told_unless : Verdict → Bool → Falls
+told_unless Accepted inside = falls.Told inside
+told_unless (Refused number detail) inside = falls.Refused number detail
 
-unfoldable pub fallsIn : Stamp → Stamp → Stamp → Falls
-fallsIn start end note = toldUnless (windowFault start end note) (isInside start end note)
+unfoldable pub falls_in : Stamp → Stamp → Stamp → Falls
+falls_in start end note = told_unless (window_fault start end note) (is_inside start end note)
 
 -- the refusal's number of an answer; 0 stands for one that is told
-abbrev pub fallsNumber : Falls → ℕ
-fallsNumber (falls.Told inside) = 0
-fallsNumber (falls.Refused number detail) = number
+abbrev pub falls_number : Falls → ℕ
+falls_number (falls.Told inside) = 0
+falls_number (falls.Refused number detail) = number
 
 -- 1 where the note falls in, else 0; or the refusal's detail
-abbrev pub fallsValue : Falls → ℕ
-fallsValue (falls.Told inside) = cond inside 1 0
-fallsValue (falls.Refused number detail) = detail
+abbrev pub falls_value : Falls → ℕ
+falls_value (falls.Told inside) = cond inside 1 0
+falls_value (falls.Refused number detail) = detail

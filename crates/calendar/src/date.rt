@@ -1,6 +1,6 @@
 // Dates of the Gregorian calendar, and what is wrong with others (34 and 46).
 ghost use Rattle.std.specs.Prelude.{◌≡◌};
-ghost use Rattle.calendar.specs.Date.{isLeap, isShort, daysIn, isDate, isUndated, outOfRange, stampFault, dateFault, noteFault};
+ghost use Rattle.calendar.specs.Date.{is_leap, is_short, days_in, is_date, is_undated, out_of_range, stamp_fault, date_fault, note_fault};
 
 use refusal::verdict::{Verdict, refuse_if};
 
@@ -15,20 +15,20 @@ pub struct Stamp {
 }
 
 fn is_leap(year: u32) -> bool
-    ensures { result ≡ isLeap year }
+    ensures { result ≡ is_leap year }
 {
     (year % 4 == 0) & ((year % 100 != 0) | (year % 400 == 0))
 }
 
 // Whether a month has 30 days.
 fn is_short(month: u32) -> bool
-    ensures { result ≡ isShort month }
+    ensures { result ≡ is_short month }
 {
     (month == 4) | ((month == 6) | ((month == 9) | (month == 11)))
 }
 
 fn days_in(year: u32, month: u32) -> u32
-    ensures { result ≡ daysIn year month }
+    ensures { result ≡ days_in year month }
 {
     if month == 2 {
         if is_leap(year) {
@@ -44,7 +44,7 @@ fn days_in(year: u32, month: u32) -> u32
 
 // Whether it is a date of the calendar, from year 1 on.
 pub fn is_date(s: Stamp) -> bool
-    ensures { result ≡ isDate s }
+    ensures { result ≡ is_date s }
 {
     let days = days_in(s.year, s.month);
     (1 <= s.year) & ((1 <= s.month) & ((s.month <= 12) & ((1 <= s.day) & (s.day <= days))))
@@ -52,21 +52,21 @@ pub fn is_date(s: Stamp) -> bool
 
 // Whether it is the sign for an undated note.
 pub fn is_undated(s: Stamp) -> bool
-    ensures { result ≡ isUndated s }
+    ensures { result ≡ is_undated s }
 {
     (s.month == 0) & (s.day == 0)
 }
 
 // Whether a number of it passes what 34 allows.
 fn out_of_range(s: Stamp) -> bool
-    ensures { result ≡ outOfRange s }
+    ensures { result ≡ out_of_range s }
 {
     (65_535 < s.year) | ((12 < s.month) | ((31 < s.day) | ((23 < s.hour) | (59 < s.minutes))))
 }
 
 // 34, then 46 where it is not allowed.
 fn stamp_fault(s: Stamp, allowed: bool) -> Verdict
-    ensures { result ≡ stampFault s allowed }
+    ensures { result ≡ stamp_fault s allowed }
 {
     let v34 = refuse_if(out_of_range(s), 34, 0);
     let v46 = refuse_if(!allowed, 46, 0);
@@ -75,7 +75,7 @@ fn stamp_fault(s: Stamp, allowed: bool) -> Verdict
 
 // 34 and 46 of what must be a date.
 pub fn date_fault(s: Stamp) -> Verdict
-    ensures { result ≡ dateFault s }
+    ensures { result ≡ date_fault s }
 {
     let date = is_date(s);
     stamp_fault(s, date)
@@ -83,7 +83,7 @@ pub fn date_fault(s: Stamp) -> Verdict
 
 // 34 and 46 of a note, which may be undated.
 pub fn note_fault(s: Stamp) -> Verdict
-    ensures { result ≡ noteFault s }
+    ensures { result ≡ note_fault s }
 {
     let date = is_date(s);
     let undated = is_undated(s);

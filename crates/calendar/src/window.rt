@@ -1,6 +1,6 @@
 // Windows of date and minute.
 ghost use Rattle.std.specs.Prelude.{◌≡◌};
-ghost use Rattle.calendar.specs.Window.{isInside, windowFault, fallsIn, fallsNumber, fallsValue};
+ghost use Rattle.calendar.specs.Window.{is_inside, window_fault, falls_in, falls_number, falls_value};
 
 use crate::date::Stamp;
 use refusal::verdict::Verdict;
@@ -14,7 +14,7 @@ pub enum Falls {
 
 // Whether a note is dated and lies in the window.
 fn is_inside(start: Stamp, end: Stamp, note: Stamp) -> bool
-    ensures { result ≡ isInside start end note }
+    ensures { result ≡ is_inside start end note }
 {
     let undated = crate::date::is_undated(note);
     let early = crate::order::earlier(note, start);
@@ -24,7 +24,7 @@ fn is_inside(start: Stamp, end: Stamp, note: Stamp) -> bool
 
 // 34 or 46 of start, end and note.
 fn window_fault(start: Stamp, end: Stamp, note: Stamp) -> Verdict
-    ensures { result ≡ windowFault start end note }
+    ensures { result ≡ window_fault start end note }
 {
     let a = crate::date::date_fault(start);
     let b = crate::date::date_fault(end);
@@ -34,7 +34,7 @@ fn window_fault(start: Stamp, end: Stamp, note: Stamp) -> Verdict
 
 // Whether a note falls in a window, its start counted in and its end counted out.
 pub fn falls_in(start: Stamp, end: Stamp, note: Stamp) -> Falls
-    ensures { result ≡ fallsIn start end note }
+    ensures { result ≡ falls_in start end note }
 {
     let fault = window_fault(start, end, note);
     let inside = is_inside(start, end, note);
@@ -51,7 +51,7 @@ pub fn falls_in(start: Stamp, end: Stamp, note: Stamp) -> Falls
 impl Falls {
     // The refusal's number, 0 where nothing is refused.
     pub fn number(self) -> u8
-        ensures { result ≡ fallsNumber self }
+        ensures { result ≡ falls_number self }
     {
         match self {
             Falls::Told(_) => {
@@ -65,7 +65,7 @@ impl Falls {
 
     // 1 where the note falls in, else 0; or the refusal's detail.
     pub fn value(self) -> u64
-        ensures { result ≡ fallsValue self }
+        ensures { result ≡ falls_value self }
     {
         match self {
             Falls::Told(inside) => {

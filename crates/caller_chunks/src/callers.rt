@@ -2,7 +2,7 @@
 ghost use Rattle.std.specs.Prelude.{◌≡◌, length};
 ghost use Rattle.chunk.specs.Append.{Appended};
 ghost use Rattle.tree.specs.Tree.{bytes};
-ghost use Rattle.caller_chunks.specs.Caller.{callerChunk, callerChunks};
+ghost use Rattle.caller_chunks.specs.Caller.{caller_chunk, caller_chunks};
 
 use chunk::Cursor;
 use texts::extent::Extent;
@@ -13,7 +13,7 @@ const WORDS: usize = 3;
 // The chunk of a row.
 fn caller_chunk(c: Cursor, out: &mut [u8], raw: &[u8], row: &[u32]) -> Cursor
     requires { length row.now ≡ 3 }
-    ensures { Appended out.old c.at (bytes (callerChunk raw.now row.now)) out.new result.at }
+    ensures { Appended out.old c.at (bytes (caller_chunk raw.now row.now)) out.new result.at }
 {
     let name = faults::caller::name_of(row[0]);
     let data = Extent {
@@ -27,7 +27,7 @@ fn caller_chunk(c: Cursor, out: &mut [u8], raw: &[u8], row: &[u32]) -> Cursor
 
 // The chunks of all whole rows.
 pub fn caller_chunks(c: Cursor, out: &mut [u8], raw: &[u8], callers: &[u32]) -> Cursor
-    ensures { Appended out.old c.at (bytes (callerChunks raw.now callers.now)) out.new result.at }
+    ensures { Appended out.old c.at (bytes (caller_chunks raw.now callers.now)) out.new result.at }
 {
     let mut c = c;
     let n = callers.len() / WORDS;

@@ -1,6 +1,6 @@
 // 26 and 27: the channel numbers of an unspecified layout.
 ghost use Rattle.std.specs.Prelude.{◌≡◌, ◌<◌, length};
-ghost use Rattle.channel_rules.specs.ChannelNumbers.{numberFault, numberFaults};
+ghost use Rattle.channel_rules.specs.ChannelNumbers.{number_fault, number_faults};
 
 use refusal::orders::times;
 use refusal::verdict::{Verdict, refuse_if};
@@ -10,7 +10,7 @@ const LARGEST: u32 = 999;
 // 26 and 27 of one number: it is too large, or it was there before.
 fn number_fault(numbers: &[u32], k: usize) -> Verdict
     requires { k < length numbers.now }
-    ensures { result ≡ numberFault numbers.now k }
+    ensures { result ≡ number_fault numbers.now k }
 {
     let number = numbers[k];
     let before = times(&numbers[..k], number);
@@ -21,7 +21,7 @@ fn number_fault(numbers: &[u32], k: usize) -> Verdict
 
 // The first number at fault.
 pub fn number_faults(numbers: &[u32]) -> Verdict
-    ensures { result ≡ numberFaults numbers.now }
+    ensures { result ≡ number_faults numbers.now }
 {
     let mut v = Verdict::Accepted;
     let mut k = 0;

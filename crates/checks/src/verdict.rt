@@ -1,6 +1,6 @@
 // The verdict on the inputs of a build: the first refusal of document 01's list.
 ghost use Rattle.std.specs.Prelude.{◌≡◌};
-ghost use Rattle.checks.specs.InputVerdict.{givenFaults, chunkFaults, verdict};
+ghost use Rattle.checks.specs.InputVerdict.{given_faults, chunk_faults, verdict};
 
 use build_options::area::Area;
 use build_options::options::{Options, Settings};
@@ -17,7 +17,7 @@ fn given_faults(
     comments: &[u32],
     callers: &[u32],
 ) -> Verdict
-    ensures { result ≡ givenFaults o pool.now raw.now tracks.now markers.now comments.now callers.now }
+    ensures { result ≡ given_faults o pool.now raw.now tracks.now markers.now comments.now callers.now }
 {
     let a = rules::limits::limit_faults(o, pool, raw, tracks, markers, comments, callers);
     let b = faults::caller::caller_faults(callers);
@@ -38,7 +38,7 @@ fn chunk_faults(
     markers: &[u32],
     comments: &[u32],
 ) -> Verdict
-    ensures { result ≡ chunkFaults area o s info_order local_order local_count pool.now raw.now tracks.now markers.now comments.now }
+    ensures { result ≡ chunk_faults area o s info_order local_order local_count pool.now raw.now tracks.now markers.now comments.now }
 {
     let sound = area.sound;
     let dst_index = build_options::area::is_dst(sound) & o.dst_index;
@@ -80,10 +80,10 @@ pub fn verdict(
     ensures { result ≡ verdict (record {
       area = area;
       options = options;
-      propertyOrder = property_order;
-      infoOrder = info_order;
-      localOrder = local_order;
-      localCount = local_count;
+      property_order = property_order;
+      info_order = info_order;
+      local_order = local_order;
+      local_count = local_count;
       pool = pool.now;
       raw = raw.now;
       tracks = tracks.now;

@@ -7,7 +7,7 @@ use native.Mathlib.Omega.{arith}
 use lib.Pow.{split, pow_pos, pow_mono}
 use lib.Bits.{bit_xor, xor_shr, xor_mod, xor_lt, xor_block, xor_shifted, xor_zero_r, xor_comm}
 use Rattle.checksum.specs.Crc.{poly, bit, bits, byte_of}
-use Rattle.checksum.proofs.XorLaws.{xor-swap, xor-scaled}
+use Rattle.checksum.proofs.XorLaws.{xor_swap, xor_scaled}
 
 -- the polynomial, added or not
 top : (x y : ℕ) → x < 2 → y < 2 → bit_xor x y * poly ≡ bit_xor (x * poly) (y * poly)
@@ -23,22 +23,22 @@ half : (a : ℕ) → a < 2 ^ 32 → a / 2 ^ 31 < 2
 half a h = omega arith
 
 -- a bit step is linear
-pub bit-xor : (a b : ℕ) → a < 2 ^ 32 → b < 2 ^ 32 → bit (bit_xor a b) ≡ bit_xor (bit a) (bit b)
+pub bit_xor_lem : (a b : ℕ) → a < 2 ^ 32 → b < 2 ^ 32 → bit (bit_xor a b) ≡ bit_xor (bit a) (bit b)
 unfolding bit
-bit-xor a b ha hb =
+bit_xor_lem a b ha hb =
     ap₂ bit_xor
     (ap (λ (x : ℕ). x * poly) (xor_shr a b 31) ∙ top (a / 2 ^ 31) (b / 2 ^ 31) (half a ha) (half b hb))
-    (ap (λ (x : ℕ). x % 2 ^ 32) (sym (xor-scaled 1 a b)) ∙ xor_mod (a * 2) (b * 2) 32)
-    ∙ xor-swap (a / 2 ^ 31 * poly) (b / 2 ^ 31 * poly) (a * 2 % 2 ^ 32) (b * 2 % 2 ^ 32)
+    (ap (λ (x : ℕ). x % 2 ^ 32) (sym (xor_scaled 1 a b)) ∙ xor_mod (a * 2) (b * 2) 32)
+    ∙ xor_swap (a / 2 ^ 31 * poly) (b / 2 ^ 31 * poly) (a * 2 % 2 ^ 32) (b * 2 % 2 ^ 32)
 
 pub bit-lt : (a : ℕ) → a < 2 ^ 32 → bit a < 2 ^ 32
 unfolding bit
 bit-lt a h = let k = half a h in xor_lt 32 (a / 2 ^ 31 * poly) (a * 2 % 2 ^ 32) (omega arith) (mod-lt (a * 2) (pow_pos 32))
 
-pub bits-xor : (n a b : ℕ) → a < 2 ^ 32 → b < 2 ^ 32 → bits n (bit_xor a b) ≡ bit_xor (bits n a) (bits n b)
+pub bits_xor : (n a b : ℕ) → a < 2 ^ 32 → b < 2 ^ 32 → bits n (bit_xor a b) ≡ bit_xor (bits n a) (bits n b)
 unfolding bits
-bits-xor zero a b ha hb = refl
-bits-xor (suc n) a b ha hb = ap (bits n) (bit-xor a b ha hb) ∙ bits-xor n (bit a) (bit b) (bit-lt a ha) (bit-lt b hb)
+bits_xor zero a b ha hb = refl
+bits_xor (suc n) a b ha hb = ap (bits n) (bit_xor_lem a b ha hb) ∙ bits_xor n (bit a) (bit b) (bit-lt a ha) (bit-lt b hb)
 
 -- where no one falls out, a bit step doubles
 pub bit-small : (x : ℕ) → x < 2 ^ 31 → bit x ≡ x * 2
@@ -65,18 +65,18 @@ bits-lt (suc n) a h = bits-lt n (bit a) (bit-lt a h)
 top_lt : (r b : ℕ) → r < 2 ^ 32 → b < 2 ^ 8 → bit_xor r (b * 2 ^ 24) < 2 ^ 32
 top_lt r b hr hb = xor_lt 32 r (b * 2 ^ 24) hr (omega arith)
 
-pub byte-lt : (r b : ℕ) → r < 2 ^ 32 → b < 2 ^ 8 → byte_of r b < 2 ^ 32
+pub byte_lt : (r b : ℕ) → r < 2 ^ 32 → b < 2 ^ 8 → byte_of r b < 2 ^ 32
 unfolding byte_of
-byte-lt r b hr hb = bits-lt 8 (bit_xor r (b * 2 ^ 24)) (top_lt r b hr hb)
+byte_lt r b hr hb = bits-lt 8 (bit_xor r (b * 2 ^ 24)) (top_lt r b hr hb)
 
 -- a byte step is linear
-pub byte-xor : (r s b d : ℕ) → r < 2 ^ 32 → s < 2 ^ 32 → b < 2 ^ 8 → d < 2 ^ 8
+pub byte_xor : (r s b d : ℕ) → r < 2 ^ 32 → s < 2 ^ 32 → b < 2 ^ 8 → d < 2 ^ 8
     → byte_of (bit_xor r s) (bit_xor b d) ≡ bit_xor (byte_of r b) (byte_of s d)
 unfolding byte_of
-byte-xor r s b d hr hs hb hd =
+byte_xor r s b d hr hs hb hd =
     ap (bits 8)
-    (ap (bit_xor (bit_xor r s)) (sym (xor-scaled 24 b d)) ∙ xor-swap r s (b * 2 ^ 24) (d * 2 ^ 24))
-    ∙ bits-xor 8 (bit_xor r (b * 2 ^ 24)) (bit_xor s (d * 2 ^ 24)) (top_lt r b hr hb) (top_lt s d hs hd)
+    (ap (bit_xor (bit_xor r s)) (sym (xor_scaled 24 b d)) ∙ xor_swap r s (b * 2 ^ 24) (d * 2 ^ 24))
+    ∙ bits_xor 8 (bit_xor r (b * 2 ^ 24)) (bit_xor s (d * 2 ^ 24)) (top_lt r b hr hb) (top_lt s d hs hd)
 
 -- the entry is one of 256
 pub index-lt : (r b : ℕ) → r < 2 ^ 32 → b < 2 ^ 8 → bit_xor (r / 2 ^ 24) b < 2 ^ 8
@@ -97,6 +97,6 @@ byte_step r b t hr hb e =
     ∙ sym (xor_shifted i 24 (r % 2 ^ 24) lo) in
     sym
     (ap (bits 8) parts
-    ∙ bits-xor 8 (i * 2 ^ 24) (r % 2 ^ 24) (omega arith) (omega arith)
+    ∙ bits_xor 8 (i * 2 ^ 24) (r % 2 ^ 24) (omega arith) (omega arith)
     ∙ ap₂ bit_xor (sym e) (bits_small 8 24 (r % 2 ^ 24) lo (omega arith))
     ∙ xor_comm t (r % 2 ^ 24 * 2 ^ 8))

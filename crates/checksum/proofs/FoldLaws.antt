@@ -1,7 +1,7 @@
 -- A unit may be left out of a content if it is added to the units 1, 28 and 32 after it, whatever power of 2 its number of bits is.
 -- 1. 32 bit steps of a register are its 31 steps, its 4 steps and itself, added: the polynomial (`once`).
 -- 2. The law for w bits, applied twice, is that for 2 w bits, since what is added twice is nothing (`twice`); so it holds for each power of 2 (`folds`).
--- 3. A unit, and the same unit at these three places, leave nothing (`none`); so it may be left out (`leave-out`). Assumes nothing.
+-- 3. A unit, and the same unit at these three places, leave nothing (`none`); so it may be left out (`leave_out`). Assumes nothing.
 use mathlib.Core.Path.{◌≡◌, refl, sym, ap, ap₂, ◌∙◌, subst}
 use Prim.Native.Nat.{ℕ, zero, suc, ◌+◌, ◌*◌, ◌/◌, ◌%◌, ◌^◌, ◌≤◌, ◌<◌}
 use native.Mathlib.Nat.{mod-lt, le_refl, add-zero, add-suc, add_comm, add-mul, mul-add, mul-suc, suc-mul, one-mul, zero-mul, pow-suc}
@@ -10,9 +10,9 @@ use lib.Dec.{lit<}
 use lib.Pow.{split, pow_pos, pow_mono}
 use lib.Bits.{bit_xor, xor_shr, xor_mod, xor_shifted, xor_zero_l, xor_zero_r, xor_self, xor_lt}
 use Rattle.checksum.specs.Crc.{bit, bits, byte_of}
-use Rattle.checksum.specs.Steps.{feed, afterUnits}
-use Rattle.checksum.proofs.XorLaws.{xor_assoc, xor-swap, xor-again, xor-meet}
-use Rattle.checksum.proofs.CrcLaws.{bit-xor, bit-lt, bit-small, bits-xor, bits-lt, byte-lt, byte-xor}
+use Rattle.checksum.specs.Steps.{feed, after_units}
+use Rattle.checksum.proofs.XorLaws.{xor_assoc, xor_swap, xor_again, xor_meet}
+use Rattle.checksum.proofs.CrcLaws.{bit_xor_lem, bit-lt, bit-small, bits_xor, bits-lt, byte_lt, byte_xor}
 
 -- ---- steps of bits
 
@@ -27,8 +27,8 @@ bits-bit zero r = refl
 bits-bit (suc n) r = bits-bit n (bit r)
 
 -- steps in either order
-bits-swap : (m n r : ℕ) → bits m (bits n r) ≡ bits n (bits m r)
-bits-swap m n r = bits-bits n m r ∙ ap (λ (x : ℕ). bits x r) (add_comm m n) ∙ sym (bits-bits m n r)
+bits_swap : (m n r : ℕ) → bits m (bits n r) ≡ bits n (bits m r)
+bits_swap m n r = bits-bits n m r ∙ ap (λ (x : ℕ). bits x r) (add_comm m n) ∙ sym (bits-bits m n r)
 
 -- steps of units of w bits
 steps : (w s t r : ℕ) → bits (s * w) (bits (t * w) r) ≡ bits ((s + t) * w) r
@@ -54,7 +54,7 @@ moved_on r h f =
     let b = bits 4 r in
     let la = bits-lt 31 r h in
     let lb = bits-lt 4 r h in
-    bits-bit 32 r ∙ ap bit f ∙ bit-xor a (bit_xor b r) la (xor_lt 32 b r lb h) ∙ ap (bit_xor (bit a)) (bit-xor b r lb h)
+    bits-bit 32 r ∙ ap bit f ∙ bit_xor_lem a (bit_xor b r) la (xor_lt 32 b r lb h) ∙ ap (bit_xor (bit a)) (bit_xor_lem b r lb h)
     ∙ sym (ap₂ bit_xor (bits-bit 31 r) (ap (λ (x : ℕ). bit_xor x (bit r)) (bits-bit 4 r)))
 
 -- .. added
@@ -64,8 +64,8 @@ added r s hr hs f g =
     let b = bits 4 r in
     let c = bits 31 s in
     let d = bits 4 s in
-    bits-xor 32 r s hr hs ∙ ap₂ bit_xor f g ∙ xor-swap a (bit_xor b r) c (bit_xor d s) ∙ ap (bit_xor (bit_xor a c)) (xor-swap b r d s)
-    ∙ sym (ap₂ bit_xor (bits-xor 31 r s hr hs) (ap (λ (x : ℕ). bit_xor x (bit_xor r s)) (bits-xor 4 r s hr hs)))
+    bits_xor 32 r s hr hs ∙ ap₂ bit_xor f g ∙ xor_swap a (bit_xor b r) c (bit_xor d s) ∙ ap (bit_xor (bit_xor a c)) (xor_swap b r d s)
+    ∙ sym (ap₂ bit_xor (bits_xor 31 r s hr hs) (ap (λ (x : ℕ). bit_xor x (bit_xor r s)) (bits_xor 4 r s hr hs)))
 
 -- .. so at each register, bit by bit
 below : (k r : ℕ) → k ≤ 32 → r < 2 ^ k → Folds 1 r
@@ -94,22 +94,22 @@ twice w f r h =
     let s = bit_xor (X r) (bit_xor (Y r) r) in
     let ls : s < 2 ^ 32 = xor_lt 32 (X r) (bit_xor (Y r) r) lX lYr in
     let spread : (n : ℕ) → bits n s ≡ bit_xor (bits n (X r)) (bit_xor (bits n (Y r)) (bits n r)) =
-    λ n. bits-xor n (X r) (bit_xor (Y r) r) lX lYr ∙ ap (bit_xor (bits n (X r))) (bits-xor n (Y r) r lY h) in
+    λ n. bits_xor n (X r) (bit_xor (Y r) r) lX lYr ∙ ap (bit_xor (bits n (X r))) (bits_xor n (Y r) r lY h) in
     let double : (t : ℕ) → bits (t * (w + w)) r ≡ bits (t * w) (bits (t * w) r) =
     λ t. ap (λ (x : ℕ). bits x r) (mul-add t w w) ∙ sym (bits-bits (t * w) (t * w) r) in
     double 32
     ∙ ap (bits (32 * w)) (f r h)
     ∙ f s ls
     ∙ ap₂ bit_xor (spread (31 * w))
-    (ap₂ bit_xor (spread (4 * w) ∙ ap (λ (x : ℕ). bit_xor x (bit_xor (Y (Y r)) (Y r))) (bits-swap (4 * w) (31 * w) r)) refl)
+    (ap₂ bit_xor (spread (4 * w) ∙ ap (λ (x : ℕ). bit_xor x (bit_xor (Y (Y r)) (Y r))) (bits_swap (4 * w) (31 * w) r)) refl)
     ∙ products (X (X r)) (X (Y r)) (X r) (Y (Y r)) (Y r) r
     ∙ sym (ap₂ (λ (a b : ℕ). bit_xor a (bit_xor b r)) (double 31) (double 4))
   where
     products : (a b c d e r : ℕ)
         → bit_xor (bit_xor a (bit_xor b c)) (bit_xor (bit_xor b (bit_xor d e)) (bit_xor c (bit_xor e r))) ≡ bit_xor a (bit_xor d r)
     products a b c d e r =
-        ap (bit_xor (bit_xor a (bit_xor b c))) (xor-swap b (bit_xor d e) c (bit_xor e r) ∙ ap (bit_xor (bit_xor b c)) (xor-meet d e r))
-        ∙ xor-meet a (bit_xor b c) (bit_xor d r)
+        ap (bit_xor (bit_xor a (bit_xor b c))) (xor_swap b (bit_xor d e) c (bit_xor e r) ∙ ap (bit_xor (bit_xor b c)) (xor_meet d e r))
+        ∙ xor_meet a (bit_xor b c) (bit_xor d r)
 
 -- the law for 2 ^ k bits
 pub folds : (k r : ℕ) → r < 2 ^ 32 → Folds (2 ^ k) r
@@ -121,62 +121,62 @@ folds (suc k) = subst (λ (w : ℕ). (r : ℕ) → r < 2 ^ 32 → Folds w r) (om
 feed-lt : (n r w : ℕ) → r < 2 ^ 32 → feed n r w < 2 ^ 32
 unfolding feed
 feed-lt zero r w h = h
-feed-lt (suc n) r w h = feed-lt n (byte_of r (w % 256)) (w / 256) (byte-lt r (w % 256) h (mod-lt w (lit< tt)))
+feed-lt (suc n) r w h = feed-lt n (byte_of r (w % 256)) (w / 256) (byte_lt r (w % 256) h (mod-lt w (lit< tt)))
 
-feed-xor : (n r s v w : ℕ) → r < 2 ^ 32 → s < 2 ^ 32 → feed n (bit_xor r s) (bit_xor v w) ≡ bit_xor (feed n r v) (feed n s w)
+feed_xor : (n r s v w : ℕ) → r < 2 ^ 32 → s < 2 ^ 32 → feed n (bit_xor r s) (bit_xor v w) ≡ bit_xor (feed n r v) (feed n s w)
 unfolding feed
-feed-xor zero r s v w hr hs = refl
-feed-xor (suc n) r s v w hr hs =
+feed_xor zero r s v w hr hs = refl
+feed_xor (suc n) r s v w hr hs =
     let hv = mod-lt v (lit< tt) in
     let hw = mod-lt w (lit< tt) in
-    ap₂ (feed n) (ap (byte_of (bit_xor r s)) (xor_mod v w 8) ∙ byte-xor r s (v % 256) (w % 256) hr hs hv hw) (xor_shr v w 8)
-    ∙ feed-xor n (byte_of r (v % 256)) (byte_of s (w % 256)) (v / 256) (w / 256) (byte-lt r (v % 256) hr hv) (byte-lt s (w % 256) hs hw)
+    ap₂ (feed n) (ap (byte_of (bit_xor r s)) (xor_mod v w 8) ∙ byte_xor r s (v % 256) (w % 256) hr hs hv hw) (xor_shr v w 8)
+    ∙ feed_xor n (byte_of r (v % 256)) (byte_of s (w % 256)) (v / 256) (w / 256) (byte_lt r (v % 256) hr hv) (byte_lt s (w % 256) hs hw)
 
-byte-none : (r : ℕ) → byte_of r 0 ≡ bits 8 r
+byte_none : (r : ℕ) → byte_of r 0 ≡ bits 8 r
 unfolding byte_of
-byte-none r = ap (bits 8) (xor_zero_r r)
+byte_none r = ap (bits 8) (xor_zero_r r)
 
 feed-none : (n r : ℕ) → feed n r 0 ≡ bits (8 * n) r
 unfolding feed bits
 feed-none zero r = refl
 feed-none (suc n) r =
-    ap (λ (x : ℕ). feed n x 0) (byte-none r) ∙ feed-none n (bits 8 r) ∙ bits-bits 8 (8 * n) r ∙ ap (λ (x : ℕ). bits x r) (sym (mul-suc 8 n))
+    ap (λ (x : ℕ). feed n x 0) (byte_none r) ∙ feed-none n (bits 8 r) ∙ bits-bits 8 (8 * n) r ∙ ap (λ (x : ℕ). bits x r) (sym (mul-suc 8 n))
 
-after-lt : (n k r : ℕ) (f : ℕ → ℕ) → r < 2 ^ 32 → afterUnits n r f k < 2 ^ 32
-unfolding afterUnits
+after-lt : (n k r : ℕ) (f : ℕ → ℕ) → r < 2 ^ 32 → after_units n r f k < 2 ^ 32
+unfolding after_units
 after-lt n zero r f h = h
-after-lt n (suc k) r f h = feed-lt n (afterUnits n r f k) (f k) (after-lt n k r f h)
+after-lt n (suc k) r f h = feed-lt n (after_units n r f k) (f k) (after-lt n k r f h)
 
-pub after-ext : (n k r : ℕ) (f g : ℕ → ℕ) → ((j : ℕ) → j < k → f j ≡ g j) → afterUnits n r f k ≡ afterUnits n r g k
-unfolding afterUnits
-after-ext n zero r f g e = refl
-after-ext n (suc k) r f g e = ap₂ (feed n) (after-ext n k r f g (λ j l. e j (omega arith))) (e k (omega arith))
+pub after_ext : (n k r : ℕ) (f g : ℕ → ℕ) → ((j : ℕ) → j < k → f j ≡ g j) → after_units n r f k ≡ after_units n r g k
+unfolding after_units
+after_ext n zero r f g e = refl
+after_ext n (suc k) r f g e = ap₂ (feed n) (after_ext n k r f g (λ j l. e j (omega arith))) (e k (omega arith))
 
-after-xor : (n k r s : ℕ) (f d h : ℕ → ℕ) → r < 2 ^ 32 → s < 2 ^ 32 → ((j : ℕ) → j < k → h j ≡ bit_xor (f j) (d j))
-    → afterUnits n (bit_xor r s) h k ≡ bit_xor (afterUnits n r f k) (afterUnits n s d k)
-unfolding afterUnits
-after-xor n zero r s f d h hr hs e = refl
-after-xor n (suc k) r s f d h hr hs e =
-    ap₂ (feed n) (after-xor n k r s f d h hr hs (λ j l. e j (omega arith))) (e k (omega arith))
-    ∙ feed-xor n (afterUnits n r f k) (afterUnits n s d k) (f k) (d k) (after-lt n k r f hr) (after-lt n k s d hs)
+after_xor : (n k r s : ℕ) (f d h : ℕ → ℕ) → r < 2 ^ 32 → s < 2 ^ 32 → ((j : ℕ) → j < k → h j ≡ bit_xor (f j) (d j))
+    → after_units n (bit_xor r s) h k ≡ bit_xor (after_units n r f k) (after_units n s d k)
+unfolding after_units
+after_xor n zero r s f d h hr hs e = refl
+after_xor n (suc k) r s f d h hr hs e =
+    ap₂ (feed n) (after_xor n k r s f d h hr hs (λ j l. e j (omega arith))) (e k (omega arith))
+    ∙ feed_xor n (after_units n r f k) (after_units n s d k) (f k) (d k) (after-lt n k r f hr) (after-lt n k s d hs)
 
 -- the first unit by itself
-after-head : (n k r : ℕ) (f : ℕ → ℕ) → afterUnits n r f (suc k) ≡ afterUnits n (feed n r (f 0)) (λ j. f (suc j)) k
-unfolding afterUnits
+after-head : (n k r : ℕ) (f : ℕ → ℕ) → after_units n r f (suc k) ≡ after_units n (feed n r (f 0)) (λ j. f (suc j)) k
+unfolding after_units
 after-head n zero r f = refl
 after-head n (suc k) r f = ap (λ (x : ℕ). feed n x (f (suc k))) (after-head n k r f)
 
 -- t units of 0
 pub after_none : (n t k r : ℕ) (d : ℕ → ℕ) → ((j : ℕ) → k ≤ j → j < k + t → d j ≡ 0)
-    → afterUnits n r d (k + t) ≡ bits (t * (8 * n)) (afterUnits n r d k)
-unfolding afterUnits bits
-after_none n zero k r d e = ap (afterUnits n r d) (add-zero k) ∙ ap (λ (x : ℕ). bits x (afterUnits n r d k)) (sym (zero-mul (8 * n)))
+    → after_units n r d (k + t) ≡ bits (t * (8 * n)) (after_units n r d k)
+unfolding after_units bits
+after_none n zero k r d e = ap (after_units n r d) (add-zero k) ∙ ap (λ (x : ℕ). bits x (after_units n r d k)) (sym (zero-mul (8 * n)))
 after_none n (suc t) k r d e =
-    ap (afterUnits n r d) (add-suc k t)
+    ap (after_units n r d) (add-suc k t)
     ∙ ap₂ (feed n) (after_none n t k r d (λ j l m. e j l (omega arith))) (e (k + t) (omega arith) (omega arith))
-    ∙ feed-none n (bits (t * (8 * n)) (afterUnits n r d k))
-    ∙ bits-bits (t * (8 * n)) (8 * n) (afterUnits n r d k)
-    ∙ ap (λ (x : ℕ). bits x (afterUnits n r d k)) (add_comm (8 * n) (t * (8 * n)) ∙ sym (suc-mul t (8 * n)))
+    ∙ feed-none n (bits (t * (8 * n)) (after_units n r d k))
+    ∙ bits-bits (t * (8 * n)) (8 * n) (after_units n r d k)
+    ∙ ap (λ (x : ℕ). bits x (after_units n r d k)) (add_comm (8 * n) (t * (8 * n)) ∙ sym (suc-mul t (8 * n)))
 
 -- ---- a unit is left out
 
@@ -187,13 +187,13 @@ module _ (n : ℕ) (fold : (r : ℕ) → r < 2 ^ 32 → Folds (8 * n) r) where
   -- the register and the unit, each by itself
   parts : (r u : ℕ) → r < 2 ^ 32 → feed n r u ≡ bit_xor (bits (1 * w) r) (feed n 0 u)
   parts r u h =
-      ap₂ (feed n) (sym (xor_zero_r r)) (sym (xor_zero_l u)) ∙ feed-xor n r 0 0 u h (pow_pos 32)
+      ap₂ (feed n) (sym (xor_zero_r r)) (sym (xor_zero_l u)) ∙ feed_xor n r 0 0 u h (pow_pos 32)
       ∙ ap (λ (x : ℕ). bit_xor x (feed n 0 u)) (feed-none n r ∙ ap (λ (x : ℕ). bits x r) (sym (one-mul w)))
 
   -- a unit q, and q again 1, 28 and 32 units later, are nothing
   none : (q : ℕ) (d : ℕ → ℕ) → d 0 ≡ q → d 27 ≡ q → d 31 ≡ q
-      → ((j : ℕ) → j < 32 → (j ≡ 0 → ⊥) → (j ≡ 27 → ⊥) → (j ≡ 31 → ⊥) → d j ≡ 0) → afterUnits n (feed n 0 q) d 32 ≡ 0
-  unfolding afterUnits
+      → ((j : ℕ) → j < 32 → (j ≡ 0 → ⊥) → (j ≡ 27 → ⊥) → (j ≡ 31 → ⊥) → d j ≡ 0) → after_units n (feed n 0 q) d 32 ≡ 0
+  unfolding after_units
   none q d e₀ e₂₇ e₃₁ e =
       let r = feed n 0 q in
       let h : r < 2 ^ 32 = feed-lt n 0 q (pow_pos 32) in
@@ -201,39 +201,39 @@ module _ (n : ℕ) (fold : (r : ℕ) → r < 2 ^ 32 → Folds (8 * n) r) where
       let b = bits (4 * w) r in
       let z = bit_xor (bits (1 * w) r) r in
       let hz : z < 2 ^ 32 = xor_lt 32 (bits (1 * w) r) r (bits-lt (1 * w) r h) h in
-      let one : afterUnits n r d 1 ≡ z = ap (feed n r) e₀ ∙ parts r q h in
-      let run : afterUnits n r d 27 ≡ bits (26 * w) z =
+      let one : after_units n r d 1 ≡ z = ap (feed n r) e₀ ∙ parts r q h in
+      let run : after_units n r d 27 ≡ bits (26 * w) z =
       after_none n 26 1 r d (λ j l m. e j (omega arith) (λ x. omega arith) (λ x. omega arith) (λ x. omega arith)) ∙ ap (bits (26 * w)) one in
       let y = bit_xor (bits (27 * w) z) r in
       let hy : y < 2 ^ 32 = xor_lt 32 (bits (27 * w) z) r (bits-lt (27 * w) z hz) h in
-      let two : afterUnits n r d 28 ≡ y =
+      let two : after_units n r d 28 ≡ y =
       ap₂ (feed n) run e₂₇ ∙ parts (bits (26 * w) z) q (bits-lt (26 * w) z hz) ∙ ap (λ (x : ℕ). bit_xor x r) (steps w 1 26 z) in
-      let rest : afterUnits n r d 31 ≡ bits (3 * w) y =
+      let rest : after_units n r d 31 ≡ bits (3 * w) y =
       after_none n 3 28 r d (λ j l m. e j (omega arith) (λ x. omega arith) (λ x. omega arith) (λ x. omega arith)) ∙ ap (bits (3 * w)) two in
       ap₂ (feed n) rest e₃₁
       ∙ parts (bits (3 * w) y) q (bits-lt (3 * w) y hy)
       ∙ ap (λ (x : ℕ). bit_xor x r)
-      (steps w 1 3 y ∙ bits-xor (4 * w) (bits (27 * w) z) r (bits-lt (27 * w) z hz) h
+      (steps w 1 3 y ∙ bits_xor (4 * w) (bits (27 * w) z) r (bits-lt (27 * w) z hz) h
       ∙ ap (λ (x : ℕ). bit_xor x b)
-      (steps w 4 27 z ∙ bits-xor (31 * w) (bits (1 * w) r) r (bits-lt (1 * w) r h) h ∙ ap (λ (x : ℕ). bit_xor x a) (steps w 31 1 r ∙ fold r h)))
+      (steps w 4 27 z ∙ bits_xor (31 * w) (bits (1 * w) r) r (bits-lt (1 * w) r h) h ∙ ap (λ (x : ℕ). bit_xor x a) (steps w 31 1 r ∙ fold r h)))
       ∙ xor_assoc (bit_xor (bit_xor a (bit_xor b r)) a) b r
       ∙ xor_assoc (bit_xor a (bit_xor b r)) a (bit_xor b r)
       ∙ xor_self (bit_xor a (bit_xor b r))
 
   -- 32 units f, and m after them, have the register of 32 units g: e, which is the last 31 of f and m, with the first of f added to three
-  pub leave-out : (m : ℕ) (f e g : ℕ → ℕ) → ((j : ℕ) → j < 31 → e j ≡ f (suc j)) → e 31 ≡ m
+  pub leave_out : (m : ℕ) (f e g : ℕ → ℕ) → ((j : ℕ) → j < 31 → e j ≡ f (suc j)) → e 31 ≡ m
       → g 0 ≡ bit_xor (e 0) (f 0) → g 27 ≡ bit_xor (e 27) (f 0) → g 31 ≡ bit_xor (e 31) (f 0)
-      → ((j : ℕ) → j < 32 → (j ≡ 0 → ⊥) → (j ≡ 27 → ⊥) → (j ≡ 31 → ⊥) → g j ≡ e j) → afterUnits n 0 g 32 ≡ feed n (afterUnits n 0 f 32) m
-  unfolding afterUnits
-  leave-out m f e g he hm g₀ g₂₇ g₃₁ hg =
+      → ((j : ℕ) → j < 32 → (j ≡ 0 → ⊥) → (j ≡ 27 → ⊥) → (j ≡ 31 → ⊥) → g j ≡ e j) → after_units n 0 g 32 ≡ feed n (after_units n 0 f 32) m
+  unfolding after_units
+  leave_out m f e g he hm g₀ g₂₇ g₃₁ hg =
       let r = feed n 0 (f 0) in
       let h : r < 2 ^ 32 = feed-lt n 0 (f 0) (pow_pos 32) in
       let d : ℕ → ℕ = λ j. bit_xor (e j) (g j) in
-      let at : (j : ℕ) → g j ≡ bit_xor (e j) (f 0) → d j ≡ f 0 = λ j x. ap (bit_xor (e j)) x ∙ xor-again (e j) (f 0) in
-      let lost : afterUnits n r d 32 ≡ 0 =
+      let at : (j : ℕ) → g j ≡ bit_xor (e j) (f 0) → d j ≡ f 0 = λ j x. ap (bit_xor (e j)) x ∙ xor_again (e j) (f 0) in
+      let lost : after_units n r d 32 ≡ 0 =
       none (f 0) d (at 0 g₀) (at 27 g₂₇) (at 31 g₃₁) (λ j l x y z. ap (bit_xor (e j)) (hg j l x y z) ∙ xor_self (e j)) in
-      ap (λ (x : ℕ). afterUnits n x g 32) (sym (xor_self r))
-      ∙ after-xor n 32 r r e d g h h (λ j l. sym (xor-again (e j) (g j)))
-      ∙ ap (bit_xor (afterUnits n r e 32)) lost
-      ∙ xor_zero_r (afterUnits n r e 32)
-      ∙ ap₂ (feed n) (after-ext n 31 r e (λ j. f (suc j)) he ∙ sym (after-head n 31 0 f)) hm
+      ap (λ (x : ℕ). after_units n x g 32) (sym (xor_self r))
+      ∙ after_xor n 32 r r e d g h h (λ j l. sym (xor_again (e j) (g j)))
+      ∙ ap (bit_xor (after_units n r e 32)) lost
+      ∙ xor_zero_r (after_units n r e 32)
+      ∙ ap₂ (feed n) (after_ext n 31 r e (λ j. f (suc j)) he ∙ sym (after-head n 31 0 f)) hm

@@ -14,8 +14,8 @@ use lib.ListN.{length, drop, get_or, set, replicate, length-set, get_or-replicat
 use lib.Seq.{drop-cons, get_or-set_same, get_or-set_other}
 use lib.Bits.{bit_xor}
 use Rattle.checksum.specs.Crc.{bit, bits, byte_of, bytes_of}
-use Rattle.checksum.specs.Steps.{feed, afterUnits, unitsFrom, ringOf, Pushed}
-use Rattle.checksum.proofs.FoldLaws.{Folds, folds, leave-out, after-ext, after_none}
+use Rattle.checksum.specs.Steps.{feed, after_units, units_from, ring_of, Pushed}
+use Rattle.checksum.proofs.FoldLaws.{Folds, folds, leave_out, after_ext, after_none}
 
 -- ---- bytes
 
@@ -38,15 +38,15 @@ pub low-next : (s : List ℕ) (i n x w : ℕ) → w ≡ x * 256 + get_or s i 0 �
 unfolding low
 low-next s i n x w p q = p ∙ ap (λ (y : ℕ). y * 256 + get_or s i 0) q
 
-pub low-fed : (n : ℕ) (s : List ℕ) (i r : ℕ) → i + n ≤ length s → ((k : ℕ) → get_or s k 0 < 256)
+pub low_fed : (n : ℕ) (s : List ℕ) (i r : ℕ) → i + n ≤ length s → ((k : ℕ) → get_or s k 0 < 256)
     → bytes_of r (drop i s) ≡ bytes_of (feed n r (low s i n)) (drop (i + n) s)
 unfolding low feed
-low-fed zero s i r h b = ap (λ (k : ℕ). bytes_of r (drop k s)) (sym (add-zero i))
-low-fed (suc n) s i r h b =
+low_fed zero s i r h b = ap (λ (k : ℕ). bytes_of r (drop k s)) (sym (add-zero i))
+low_fed (suc n) s i r h b =
     let x = low s (i + 1) n in
     let k : i + 1 + n ≡ i + suc n = omega arith in
     sym (step s i r (omega arith))
-    ∙ low-fed n s (i + 1) (byte_of r (get_or s i 0)) (omega arith) b
+    ∙ low_fed n s (i + 1) (byte_of r (get_or s i 0)) (omega arith) b
     ∙ ap₂ bytes_of
     (ap₂ (feed n) (ap (byte_of r) (sym (digits_mod x {m = 256} (b i)))) (sym (digits_div x {m = 256} (b i))))
     (ap (λ (j : ℕ). drop j s) k)
@@ -67,18 +67,18 @@ feed-cut (suc m) n r u =
     (shr-shr u 8 (8 * m) ∙ ap (λ (k : ℕ). u / 2 ^ k) (sym f))
 
 -- a unit that is a byte
-pub feed-byte : (r u : ℕ) → feed 1 r u ≡ byte_of r (u % 256)
+pub feed_byte : (r u : ℕ) → feed 1 r u ≡ byte_of r (u % 256)
 unfolding feed
-feed-byte r u = refl
+feed_byte r u = refl
 
 -- ---- the ring
 
 -- 2 ^ k bytes, in bits
-pow-eight : (k : ℕ) → 2 ^ (k + 3) ≡ 8 * 2 ^ k
-pow-eight k = pow-add 2 k 3 ∙ mul_comm (2 ^ k) 8
+pow_eight : (k : ℕ) → 2 ^ (k + 3) ≡ 8 * 2 ^ k
+pow_eight k = pow-add 2 k 3 ∙ mul_comm (2 ^ k) 8
 
-pub after_next : (n r : ℕ) (f : ℕ → ℕ) (j : ℕ) → feed n (afterUnits n r f j) (f j) ≡ afterUnits n r f (j + 1)
-unfolding afterUnits
+pub after_next : (n r : ℕ) (f : ℕ → ℕ) (j : ℕ) → feed n (after_units n r f j) (f j) ≡ after_units n r f (j + 1)
+unfolding after_units
 after_next n r f j = rw add-one
 
 bits-zero : (n : ℕ) → bits n 0 ≡ 0
@@ -87,16 +87,16 @@ bits-zero zero = refl
 bits-zero (suc n) = bits-zero n
 
 -- a ring of 32 units of 0
-pub ring-start : (n : ℕ) → ringOf n (replicate 32 0) 0 ≡ 0
-unfolding ringOf afterUnits
-ring-start n =
-    after_none n 32 0 0 (unitsFrom (replicate 32 0) 0) (λ j _ _. get_or-replicate 32 ((0 + j) % 32) 0 0 (mod-lt (0 + j) (lit< tt))) ∙ bits-zero (32 * (8 * n))
+pub ring_start : (n : ℕ) → ring_of n (replicate 32 0) 0 ≡ 0
+unfolding ring_of after_units
+ring_start n =
+    after_none n 32 0 0 (units_from (replicate 32 0) 0) (λ j _ _. get_or-replicate 32 ((0 + j) % 32) 0 0 (mod-lt (0 + j) (lit< tt))) ∙ bits-zero (32 * (8 * n))
 
 -- 64 units on: the same place
-pub ring-round : (n : ℕ) (a : List ℕ) → ringOf n a 64 ≡ ringOf n a 0
-unfolding ringOf
-ring-round n a =
-    after-ext n 32 0 (unitsFrom a 64) (unitsFrom a 0)
+pub ring_round : (n : ℕ) (a : List ℕ) → ring_of n a 64 ≡ ring_of n a 0
+unfolding ring_of
+ring_round n a =
+    after_ext n 32 0 (units_from a 64) (units_from a 0)
     (λ j l. let e : (64 + j) % 32 ≡ (0 + j) % 32 = omega arith in ap (λ (k : ℕ). get_or a k 0) e)
 
 -- two halves more are a unit more
@@ -185,15 +185,15 @@ module _ (a : List ℕ) (i m : ℕ) (size : length a ≡ 32) where
 
   -- at the place j of the ring, which is x of the list
   added : (j x : ℕ) → (i + 1 + j) % 32 ≡ x → get_or a₃ x 0 ≡ bit_xor (get_or e x 0) q
-      → unitsFrom a₃ (i + 1) j ≡ bit_xor (unitsFrom e (i + 1) j) (unitsFrom a i 0)
+      → units_from a₃ (i + 1) j ≡ bit_xor (units_from e (i + 1) j) (units_from a i 0)
   added j x h t =
       ap (λ (y : ℕ). get_or a₃ y 0) h ∙ t
       ∙ sym (ap₂ bit_xor (ap (λ (y : ℕ). get_or e y 0) h) (ap (λ (y : ℕ). get_or a (y % 32) 0) (add-zero i)))
 
-  pub ring-step : Pushed a i m a₃
-  unfolding ringOf
-  ring-step k =
-      leave-out (2 ^ k) (λ r h. subst (λ (w : ℕ). Folds w r) (pow-eight k) (folds (k + 3) r h)) m (unitsFrom a i) (unitsFrom e (i + 1)) (unitsFrom a₃ (i + 1))
+  pub ring_step : Pushed a i m a₃
+  unfolding ring_of
+  ring_step k =
+      leave_out (2 ^ k) (λ r h. subst (λ (w : ℕ). Folds w r) (pow_eight k) (folds (k + 3) r h)) m (units_from a i) (units_from e (i + 1)) (units_from a₃ (i + 1))
       (λ j l. let h : i + 1 + j ≡ i + suc j = omega arith in kept ((i + 1 + j) % 32) (λ z. omega arith) ∙ ap (λ (y : ℕ). get_or a (y % 32) 0) h)
       (let h : (i + 1 + 31) % 32 ≡ o = omega arith in ap (λ (y : ℕ). get_or e y 0) h ∙ kept-o)
       (added 0 p (omega arith) (at_p ∙ ap (λ (y : ℕ). bit_xor y q) (sym (kept p p≢o))))

@@ -1,7 +1,7 @@
 // The CRC of a DST frame's content: 32 bits, most significant bit first, polynomial 0x80000011, start 0, nothing inverted.
 ghost use Rattle.std.specs.Prelude.{◌≡◌, ◌*◌, ◌≤◌, length, drop};
-ghost use Rattle.checksum.specs.Crc.{Right, byte_of, bytes_of, crcOf};
-ghost use Rattle.checksum.specs.Steps.{ringOf};
+ghost use Rattle.checksum.specs.Crc.{Right, byte_of, bytes_of, crc_of};
+ghost use Rattle.checksum.specs.Steps.{ring_of};
 
 use crate::fold::{folded, halved};
 
@@ -56,7 +56,7 @@ fn next(table: &[u32; 256], r: u32, b: u8) -> u32
 // The register after 32 bytes, each the low one of a unit.
 fn fed(table: &[u32; 256], bytes: &[u64; 32]) -> u32
     requires { Right table.now }
-    ensures { result ≡ ringOf 1 bytes.now 0 }
+    ensures { result ≡ ring_of 1 bytes.now 0 }
 {
     let mut s: u32 = 0;
     let mut j: usize = 0;
@@ -70,7 +70,7 @@ fn fed(table: &[u32; 256], bytes: &[u64; 32]) -> u32
 // The register after the first n words: 32 words, folded to 32 halves, quarters and bytes.
 fn words(table: &[u32; 256], content: &[u8], n: usize) -> u32
     requires { Right table.now × (n * 8 ≤ length content.now) }
-    ensures { bytes_of result (drop (n * 8) content.now) ≡ crcOf content.now }
+    ensures { bytes_of result (drop (n * 8) content.now) ≡ crc_of content.now }
 {
     let ring = folded(content, n);
     let halves = halved(&ring, n, 0x1_0000_0000);
@@ -81,7 +81,7 @@ fn words(table: &[u32; 256], content: &[u8], n: usize) -> u32
 
 // The table is copied to a local once: a constant that is indexed is copied whole at each index.
 pub fn crc(content: &[u8]) -> u32
-    ensures { result ≡ crcOf content.now }
+    ensures { result ≡ crc_of content.now }
 {
     let table = TABLE;
     let n = content.len() / 8;

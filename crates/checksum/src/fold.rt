@@ -7,8 +7,8 @@
 // makes the first unit 0, and zeros in front change nothing, since the register starts at 0. So a unit may be left out if it is added to the units
 // 1, 28 and 32 after it. How a u64 holds a unit's bytes makes no difference, as units are only added.
 ghost use Rattle.std.specs.Prelude.{◌≡◌, ◌+◌, ◌*◌, ◌^◌, ◌≤◌, ◌<◌, length, drop};
-ghost use Rattle.checksum.specs.Crc.{bytes_of, crcOf};
-ghost use Rattle.checksum.specs.Steps.{Next, Pushed, Halved, ringOf};
+ghost use Rattle.checksum.specs.Crc.{bytes_of, crc_of};
+ghost use Rattle.checksum.specs.Steps.{Next, Pushed, Halved, ring_of};
 
 // One byte more below a number. That b is a byte is said so that its caller sees that the next one fits.
 fn push(w: u64, b: u8) -> u64
@@ -57,7 +57,7 @@ fn push_unit(ring: &mut [u64; 32], i: usize, unit: u64)
 // The first n words of a content in a ring. The first of the 32 stands at n % 32.
 pub(crate) fn folded(content: &[u8], n: usize) -> [u64; 32]
     requires { n * 8 ≤ length content.now }
-    ensures { bytes_of (ringOf 8 result n) (drop (n * 8) content.now) ≡ crcOf content.now }
+    ensures { bytes_of (ring_of 8 result n) (drop (n * 8) content.now) ≡ crc_of content.now }
 {
     let mut ring = [0u64; 32];
     let mut i = 0;

@@ -108,8 +108,8 @@ pub kept : {xs ys bs : List ℕ} {a b : ℕ} → Appended xs a bs ys b → lengt
 kept {xs} {ys} {bs} {a} p = ap length p.buffer ∙ length-overlay xs a bs
 
 -- the cursor that an append hands on does not depend on the buffer
-pub same-cursor : {xs ys xs' ys' bs : List ℕ} {a b b' : ℕ} → Appended xs a bs ys b → Appended xs' a bs ys' b' → b ≡ b'
-same-cursor p q = p.place ∙ sym q.place
+pub same_cursor : {xs ys xs' ys' bs : List ℕ} {a b b' : ℕ} → Appended xs a bs ys b → Appended xs' a bs ys' b' → b ≡ b'
+same_cursor p q = p.place ∙ sym q.place
 
 -- so an append at the front of any buffer, an empty one too, measures
 pub measured : {xs ys bs : List ℕ} {b : ℕ} → Appended xs 0 bs ys b → length bs < 2 ^ 64 → length bs ≡ b

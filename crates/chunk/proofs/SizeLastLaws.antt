@@ -16,7 +16,7 @@ use Rattle.chunk.specs.Chunk.{pad, chunk}
 use Rattle.chunk.specs.Close.{Closed}
 use Rattle.chunk.proofs.NumberLaws.{length-be}
 use Rattle.chunk.proofs.AppendLaws.{moved-moved, ◌then◌, kept, measured, overlay-out, overlay-moved, length-overlay}
-use Rattle.chunk.proofs.TailLaws.{overlay-apart, overlay-tail, tail-lent, tail-back}
+use Rattle.chunk.proofs.TailLaws.{overlay-apart, overlay_tail, tail_lent, tail_back}
 use Rattle.chunk.proofs.ChunkLaws.{length-pad, chunked}
 
 -- the steps of `Cursor::close`: the size at its place, the data passed, the pad behind them
@@ -36,22 +36,22 @@ closing {xs} {ys} {ws} {a} {b} {c} {d} {n} size skip end =
     }
 
 -- where data begins behind eight bytes, or at the buffer's end, where nothing is stored
-overlay-data : (xs : List ℕ) (a : ℕ) (bs : List ℕ) → overlay xs (min (a + 8) (length xs)) bs ≡ overlay xs (a + 8) bs
-overlay-data xs a bs = go (dec_le (a + 8) (length xs))
+overlay_data : (xs : List ℕ) (a : ℕ) (bs : List ℕ) → overlay xs (min (a + 8) (length xs)) bs ≡ overlay xs (a + 8) bs
+overlay_data xs a bs = go (dec_le (a + 8) (length xs))
   where
     go : Dec (a + 8 ≤ length xs) → overlay xs (min (a + 8) (length xs)) bs ≡ overlay xs (a + 8) bs
     go (yes l) = ap (λ (k : ℕ). overlay xs k bs) (omega arith)
     go (no l) = overlay-out xs (min (a + 8) (length xs)) bs (omega arith) ∙ sym (overlay-out xs (a + 8) bs (omega arith))
 
 -- data that a cursor from 0 on appended to the part of the buffer behind the eight bytes of a size
-data-behind : (xs : List ℕ) (a : ℕ) {part content : List ℕ} {p o n : ℕ} → p ≡ min (a + 8) (length xs) → o ≡ 0
+data_behind : (xs : List ℕ) (a : ℕ) {part content : List ℕ} {p o n : ℕ} → p ≡ min (a + 8) (length xs) → o ≡ 0
     → Appended (mid_of p (length xs - p) xs) o content part n → put_mid p (length xs - p) xs part ≡ overlay xs (a + 8) content
-data-behind xs a {part} {content} {p} from front inside =
-    tail-back p xs part
-    ∙ ap (λ (l : List ℕ). take p xs ++ l) (inside.buffer ∙ ap₂ (λ (l : List ℕ) (k : ℕ). overlay l k content) (tail-lent p xs) front)
-    ∙ overlay-tail p 0 xs content
+data_behind xs a {part} {content} {p} from front inside =
+    tail_back p xs part
+    ∙ ap (λ (l : List ℕ). take p xs ++ l) (inside.buffer ∙ ap₂ (λ (l : List ℕ) (k : ℕ). overlay l k content) (tail_lent p xs) front)
+    ∙ overlay_tail p 0 xs content
     ∙ ap (λ (k : ℕ). overlay xs k content) (add-zero p ∙ from)
-    ∙ overlay-data xs a content
+    ∙ overlay_data xs a content
 
 -- From the buffer xs, the size n, the data and the pad were appended one after the other, from the place a of the size on.
 record InTurn (xs : List ℕ) (a n : ℕ) (content ws : List ℕ) (d : ℕ) : Type 0 where
@@ -60,9 +60,9 @@ record InTurn (xs : List ℕ) (a n : ℕ) (content ws : List ℕ) (d : ℕ) : Ty
   end : Appended (overlay (overlay xs a (be 8 n)) (moved a 8) content) (moved (moved a 8) (length content)) (pad n) ws d
 
 -- Closed behind the data, or appended in turn: the same bytes and the same cursor.
-in-turn : {xs part ws content : List ℕ} {a p o n d : ℕ} → length xs < 2 ^ 63 → p ≡ min (a + 8) (length xs) → o ≡ 0
+in_turn : {xs part ws content : List ℕ} {a p o n d : ℕ} → length xs < 2 ^ 63 → p ≡ min (a + 8) (length xs) → o ≡ 0
     → Appended (mid_of p (length xs - p) xs) o content part n → Closed (put_mid p (length xs - p) xs part) a n ws d → InTurn xs a n content ws d
-in-turn {xs} {part} {ws} {content} {a} {p} {o} {n} {d} short from front data' closed =
+in_turn {xs} {part} {ws} {content} {a} {p} {o} {n} {d} short from front data' closed =
     let eight = length-be 8 n in
     let one = length-pad n in
     let sized = overlay xs a (be 8 n) in
@@ -72,7 +72,7 @@ in-turn {xs} {part} {ws} {content} {a} {p} {o} {n} {d} short from front data' cl
     let n-is : n ≡ min (0 + length content) (2 ^ 64 - 1) = data'.place ∙ ap (λ (k : ℕ). moved k (length content)) front in
     let behind : moved a (8 + n) ≡ moved (moved a 8) (length content) = omega (arith, n-is) in
     let both : overlay (put_mid p (length xs - p) xs part) a (be 8 n) ≡ filled =
-    ap (λ (l : List ℕ). overlay l a (be 8 n)) (data-behind xs a from front data')
+    ap (λ (l : List ℕ). overlay l a (be 8 n)) (data_behind xs a from front data')
     ∙ overlay-apart xs a (be 8 n) (a + 8) content (omega (arith, eight))
     ∙ sym (overlay-moved sized a 8 content (omega (arith, short, long))) in
     record {
@@ -94,7 +94,7 @@ pub size-last : (name : Name) {xs ys part ws content : List ℕ} {a b p o n d : 
     → Appended (mid_of p (length ys - p) ys) o content part n → Closed (put_mid p (length ys - p) ys part) b n ws d
     → Appended xs a (name ++ be 8 n ++ content ++ pad n) ws d
 size-last name head from front data' closed =
-    let turn = in-turn (rw (kept head) head.short) from front data' closed in
+    let turn = in_turn (rw (kept head) head.short) from front data' closed in
     head then turn.size then turn.inside then turn.end
 
 -- It is a chunk, where a cursor can tell its size.
@@ -102,5 +102,5 @@ pub chunk-size-last : (name : Name) {xs ys part ws content : List ℕ} {a b p o 
     → p ≡ min (b + 8) (length ys) → o ≡ 0 → Appended (mid_of p (length ys - p) ys) o content part n → Closed (put_mid p (length ys - p) ys part) b n ws d
     → Appended xs a (chunk name content) ws d
 chunk-size-last name {content = content} {n = n} short head from front data' closed =
-    let turn = in-turn (rw (kept head) head.short) from front data' closed in
+    let turn = in_turn (rw (kept head) head.short) from front data' closed in
     chunked name n (measured (rw front at data') short) (head then turn.size) turn.inside turn.end

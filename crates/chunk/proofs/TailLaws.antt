@@ -29,17 +29,17 @@ overlay-apart xs a [] p bs h = refl
 overlay-apart xs a (x ∷ cs) p bs h = rw (← set-overlay xs a x p bs (omega arith)) (overlay-apart (set xs a x) (suc a) cs p bs (omega arith))
 
 -- `&mut xs[n..]` is lent as `mid_of n (length xs - n) xs`, and comes back by `put_mid`
-pub tail-lent : (n : ℕ) (xs : List ℕ) → mid_of n (length xs - n) xs ≡ drop n xs
-tail-lent n xs = take_all (length xs - n) (drop n xs) (rw length-drop (omega arith))
+pub tail_lent : (n : ℕ) (xs : List ℕ) → mid_of n (length xs - n) xs ≡ drop n xs
+tail_lent n xs = take_all (length xs - n) (drop n xs) (rw length-drop (omega arith))
 
-pub tail-back : (n : ℕ) (xs ys : List ℕ) → put_mid n (length xs - n) xs ys ≡ take n xs ++ ys
-tail-back n xs ys =
+pub tail_back : (n : ℕ) (xs ys : List ℕ) → put_mid n (length xs - n) xs ys ≡ take n xs ++ ys
+tail_back n xs ys =
     let z : post_of n (length xs - n) xs ≡ [] = let h : length (drop n xs) ≤ length xs - n = rw length-drop (omega arith) in drop_of_length-le (drop n xs) h in
     rw (z, append-nil)
 
 -- what is stored in a tail
-pub overlay-tail : (a k : ℕ) (xs bs : List ℕ) → take a xs ++ overlay (drop a xs) k bs ≡ overlay xs (a + k) bs
+pub overlay_tail : (a k : ℕ) (xs bs : List ℕ) → take a xs ++ overlay (drop a xs) k bs ≡ overlay xs (a + k) bs
 unfolding overlay
-overlay-tail a k xs [] = take-append-drop a xs
-overlay-tail a k xs (b ∷ bs) =
-    rw (← drop-set-add a xs k b, ← take-set-le a xs (a + k) b (omega arith), ← add-suc a k) (overlay-tail a (suc k) (set xs (a + k) b) bs)
+overlay_tail a k xs [] = take-append-drop a xs
+overlay_tail a k xs (b ∷ bs) =
+    rw (← drop-set-add a xs k b, ← take-set-le a xs (a + k) b (omega arith), ← add-suc a k) (overlay_tail a (suc k) (set xs (a + k) b) bs)

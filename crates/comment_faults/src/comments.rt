@@ -1,8 +1,8 @@
 // 34 to 36: comments.
 ghost use Rattle.std.specs.Prelude.{◌≡◌, ◌<◌, ◌/◌, length};
-ghost use Rattle.comt.specs.Comment.{commentOf};
+ghost use Rattle.comt.specs.Comment.{comment_of};
 ghost use Rattle.rows.specs.Row.{row_at};
-ghost use Rattle.comment_faults.specs.Comments.{dateWrong, mostReference, referenceWrong, isWrittenComment, faultOf, commentFaults};
+ghost use Rattle.comment_faults.specs.Comments.{date_wrong, most_reference, reference_wrong, is_written_comment, fault_of, comment_faults};
 
 use comt::comt::Comment;
 use refusal::verdict::{Verdict, refuse_if};
@@ -16,7 +16,7 @@ const MOST_COMMENTS: usize = 65_535;
 // Comment k.
 fn comment_at(rows: &[u32], k: usize) -> Comment
     requires { k < length rows.now / 9 }
-    ensures { result ≡ commentOf (row_at 9 rows.now k) }
+    ensures { result ≡ comment_of (row_at 9 rows.now k) }
 {
     Comment {
         year: word(rows, 9, k, 0),
@@ -35,14 +35,14 @@ fn comment_at(rows: &[u32], k: usize) -> Comment
 
 // Whether the time stamp is out of range.
 fn date_wrong(c: Comment) -> bool
-    ensures { result ≡ dateWrong c }
+    ensures { result ≡ date_wrong c }
 {
     (65_535 < c.year) | ((12 < c.month) | ((31 < c.day) | ((23 < c.hour) | (59 < c.minutes))))
 }
 
 // The largest reference of a kind that has one.
 fn most_reference(kind: u32, channels: u8) -> u32
-    ensures { result ≡ mostReference kind channels }
+    ensures { result ≡ most_reference kind channels }
 {
     if kind == 1 {
         return channels as u32;
@@ -55,7 +55,7 @@ fn most_reference(kind: u32, channels: u8) -> u32
 
 // Whether the reference is out of range, or the kind is none. A general comment's reference is not looked at.
 fn reference_wrong(c: Comment, channels: u8) -> bool
-    ensures { result ≡ referenceWrong c channels }
+    ensures { result ≡ reference_wrong c channels }
 {
     if c.kind == 0 {
         return false;
@@ -65,7 +65,7 @@ fn reference_wrong(c: Comment, channels: u8) -> bool
 
 // Whether it will be written.
 fn is_written(c: Comment, pool: &[u32], options: TextOptions) -> bool
-    ensures { result ≡ isWrittenComment pool.now options c }
+    ensures { result ≡ is_written_comment pool.now options c }
 {
     let rule = options.rule;
     let text = c.text;
@@ -75,7 +75,7 @@ fn is_written(c: Comment, pool: &[u32], options: TextOptions) -> bool
 
 // 34 to 36 of a comment, after so many that will be written.
 fn fault_of(c: Comment, written: bool, before: usize, channels: u8) -> Verdict
-    ensures { result ≡ faultOf channels c written before }
+    ensures { result ≡ fault_of channels c written before }
 {
     let v34 = refuse_if(date_wrong(c), 34, 0);
     let v35 = refuse_if(reference_wrong(c, channels), 35, 0);
@@ -85,7 +85,7 @@ fn fault_of(c: Comment, written: bool, before: usize, channels: u8) -> Verdict
 
 // The first comment at fault.
 pub fn comment_faults(comments: &[u32], pool: &[u32], options: TextOptions, channels: u8) -> Verdict
-    ensures { result ≡ commentFaults comments.now pool.now options channels }
+    ensures { result ≡ comment_faults comments.now pool.now options channels }
 {
     let kind = Row::Comment;
     let n = kind.count(comments);

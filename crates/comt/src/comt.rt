@@ -5,8 +5,8 @@ ghost use Rattle.chunk.specs.Append.{Appended};
 ghost use Rattle.chunk.specs.Number.{be};
 ghost use Rattle.chunk.specs.Chunk.{pad};
 ghost use Rattle.texts.specs.Extent.{part};
-ghost use Rattle.texts.specs.Text.{textBytes};
-ghost use Rattle.comt.specs.Comment.{commentOf, referenceOf, commentHead, writtenComment, writtenComments, commentBytes, comt};
+ghost use Rattle.texts.specs.Text.{text_bytes};
+ghost use Rattle.comt.specs.Comment.{comment_of, reference_of, comment_head, written_comment, written_comments, comment_bytes, comt};
 
 use chunk::Cursor;
 use texts::extent::Extent;
@@ -33,7 +33,7 @@ pub struct Comment {
 // The comment of a row.
 fn comment_of(row: &[u32]) -> Comment
     requires { length row.now ≡ 9 }
-    ensures { result ≡ commentOf row.now }
+    ensures { result ≡ comment_of row.now }
 {
     Comment {
         year: row[0],
@@ -52,7 +52,7 @@ fn comment_of(row: &[u32]) -> Comment
 
 // The reference that a comment is written with: a general one has none.
 fn reference(c: Comment) -> u32
-    ensures { result ≡ referenceOf c }
+    ensures { result ≡ reference_of c }
 {
     if c.kind == 0 {
         return 0;
@@ -62,7 +62,7 @@ fn reference(c: Comment) -> u32
 
 // A comment's 10 bytes before its text. Of a number that passes its field, the low bytes.
 fn comment_head(c: Comment) -> [u8; 10]
-    ensures { result ≡ commentHead c }
+    ensures { result ≡ comment_head c }
 {
     let reference = reference(c);
     [
@@ -109,7 +109,7 @@ fn comt_data(
     rows: &[u32],
     options: TextOptions,
 ) -> Cursor
-    ensures { Appended out.old c.at (be 2 count ++ flat_map commentBytes (writtenComments pool.now rows.now options)) out.new result.at }
+    ensures { Appended out.old c.at (be 2 count ++ flat_map comment_bytes (written_comments pool.now rows.now options)) out.new result.at }
 {
     let c = c.be16(out, count);
     written_comments(c, out, pool, rows, options)
@@ -117,7 +117,7 @@ fn comt_data(
 
 // How many comments are written, of all whole rows.
 fn comments_count(pool: &[u32], rows: &[u32], options: TextOptions) -> usize
-    ensures { result ≡ length (writtenComments pool.now rows.now options) }
+    ensures { result ≡ length (written_comments pool.now rows.now options) }
 {
     let n = rows.len() / WORDS;
     let mut count = 0;
@@ -134,7 +134,7 @@ fn comments_count(pool: &[u32], rows: &[u32], options: TextOptions) -> usize
 
 // 1 if a comment is written, else 0.
 fn one_if_written(pool: &[u32], c: Comment, options: TextOptions) -> usize
-    ensures { result ≡ length (writtenComment pool.now options c) }
+    ensures { result ≡ length (written_comment pool.now options c) }
 {
     let rule = options.rule;
     let text = c.text;
@@ -153,7 +153,7 @@ fn written_comments(
     rows: &[u32],
     options: TextOptions,
 ) -> Cursor
-    ensures { Appended out.old c.at (flat_map commentBytes (writtenComments pool.now rows.now options)) out.new result.at }
+    ensures { Appended out.old c.at (flat_map comment_bytes (written_comments pool.now rows.now options)) out.new result.at }
 {
     let n = rows.len() / WORDS;
     let mut p = c;
@@ -176,7 +176,7 @@ fn written_comment(
     c: Comment,
     options: TextOptions,
 ) -> Cursor
-    ensures { Appended out.old p.at (flat_map commentBytes (writtenComment pool.now options c)) out.new result.at }
+    ensures { Appended out.old p.at (flat_map comment_bytes (written_comment pool.now options c)) out.new result.at }
 {
     let rule = options.rule;
     let text = c.text;
@@ -196,7 +196,7 @@ fn comment_bytes(
     c: Comment,
     rule: TextRule,
 ) -> Cursor
-    ensures { Appended out.old p.at (commentHead c ++ (be 4 count ++ textBytes rule (part pool.now c.text)) ++ pad count) out.new result.at }
+    ensures { Appended out.old p.at (comment_head c ++ (be 4 count ++ text_bytes rule (part pool.now c.text)) ++ pad count) out.new result.at }
 {
     let text = c.text;
     let head = comment_head(c);

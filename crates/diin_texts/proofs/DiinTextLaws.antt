@@ -11,11 +11,11 @@ use Rattle.chunk_names.specs.Name.{Name}
 use Rattle.chunk.specs.Chunk.{pad, chunk, counts}
 use Rattle.tree.specs.Tree.{stop, leaf, bytes}
 use Rattle.tree.specs.Reader.{Reader, Shaped}
-use Rattle.chunk.proofs.ChunkLaws.{length-pad, pad-even, pad-parity, length-counts}
-use Rattle.tree.proofs.TreeLaws.{bytes-stop, bytes-leaf, shaped-if}
+use Rattle.chunk.proofs.ChunkLaws.{length-pad, pad-even, pad_parity, length-counts}
+use Rattle.tree.proofs.TreeLaws.{bytes-stop, bytes-leaf, shaped_if}
 use Rattle.texts.specs.Extent.{part}
-use Rattle.texts.specs.Text.{textBytes, textPad, is_written}
-use Rattle.diin_texts.specs.DiinText.{diinTextData, givenTextBytes, diinText, givenTextChunk, diinTextChunk}
+use Rattle.texts.specs.Text.{text_bytes, text_pad, is_written}
+use Rattle.diin_texts.specs.DiinText.{diin_text_data, given_text_bytes, diin_text, given_text_chunk, diin_text_chunk}
 use Rattle.diin_texts.specs.declared.diin_text.Text.{Text}
 use Rattle.diin_texts.specs.declared.diin_text.Text.TheVariants.{Absent, Given}
 use Rattle.texts.specs.declared.text.TextOptions.{TextOptions}
@@ -29,8 +29,8 @@ length-content text true = simp (length-append, length-counts, length-pad)
 length-content text false = simp (length-append, length-counts)
 
 -- the data has room for a count, a text and a pad
-pub length-diin-text : (text : List ℕ) (o : TextOptions) → length (diinTextData text o) ≤ 5 + length text
-unfolding diinTextData textPad
+pub length-diin-text : (text : List ℕ) (o : TextOptions) → length (diin_text_data text o) ≤ 5 + length text
+unfolding diin_text_data text_pad
 length-diin-text text o = go o.text_pad_counted
   where
     go : (b : Bool) → length (content text b) ≤ 5 + length text
@@ -39,34 +39,34 @@ length-diin-text text o = go o.text_pad_counted
 
 -- With the pad counted or not, the bytes are the same but for the size, which counts it or not.
 pub diin-text-bytes : (name : Name) (text : List ℕ) (o : TextOptions)
-    → chunk name (diinTextData text o)
+    → chunk name (diin_text_data text o)
     ≡ name ++ be 8 (4 + length text + cond o.text_pad_counted (length text % 2) 0) ++ be 4 (length text) ++ text ++ pad (length text)
-unfolding chunk diinTextData textPad counts
+unfolding chunk diin_text_data text_pad counts
 diin-text-bytes name text o = go o.text_pad_counted
   where
     go : (b : Bool) → chunk name (content text b) ≡ name ++ be 8 (4 + length text + cond b (length text % 2) 0) ++ be 4 (length text) ++ text ++ pad (length text)
     go true = rw (length-content text true, pad-even (4 + length text + length text % 2) (omega arith)) (simp (append_assoc, append-nil))
-    go false = rw (length-content text false, pad-parity (4 + length text + 0) (length text) (omega arith)) (simp (append_assoc, append-nil))
+    go false = rw (length-content text false, pad_parity (4 + length text + 0) (length text) (omega arith)) (simp (append_assoc, append-nil))
 
 -- DIAR and DITI as chunks of a tree have the same bytes
-given-text-tree : (name : Name) (text : List ℕ) (o : TextOptions) → bytes (givenTextChunk name text o) ≡ givenTextBytes name text o
-unfolding givenTextChunk givenTextBytes
-given-text-tree name text o = go (is_written o (length text))
+given-text_tree : (name : Name) (text : List ℕ) (o : TextOptions) → bytes (given_text_chunk name text o) ≡ given_text_bytes name text o
+unfolding given_text_chunk given_text_bytes
+given-text_tree name text o = go (is_written o (length text))
   where
-    go : (b : Bool) → bytes (cond b (leaf name (diinTextData text o) stop) stop) ≡ cond b (chunk name (diinTextData text o)) []
-    go true = bytes-leaf name (diinTextData text o)
+    go : (b : Bool) → bytes (cond b (leaf name (diin_text_data text o) stop) stop) ≡ cond b (chunk name (diin_text_data text o)) []
+    go true = bytes-leaf name (diin_text_data text o)
     go false = bytes-stop
 
-pub diin-text-tree : (name : Name) (pool : List ℕ) (text : Text) (o : TextOptions) → bytes (diinTextChunk name pool text o) ≡ diinText name pool text o
-unfolding diinTextChunk diinText
-diin-text-tree name pool Absent o = bytes-stop
-diin-text-tree name pool (Given text) o = given-text-tree name (textBytes o.rule (part pool text)) o
+pub diin-text_tree : (name : Name) (pool : List ℕ) (text : Text) (o : TextOptions) → bytes (diin_text_chunk name pool text o) ≡ diin_text name pool text o
+unfolding diin_text_chunk diin_text
+diin-text_tree name pool Absent o = bytes-stop
+diin-text_tree name pool (Given text) o = given-text_tree name (text_bytes o.rule (part pool text)) o
 
 -- and have the shape of a reader for whom the name is no container
-pub diin-text-shaped : (r : Reader) (parent name : Name) → length name ≡ 4 → r.inner parent name ≡ none
-    → (pool : List ℕ) (text : Text) (o : TextOptions) → Shaped r parent (diinTextChunk name pool text o)
-unfolding diinTextChunk givenTextChunk
-diin-text-shaped r parent name four plain pool Absent o = tt
-diin-text-shaped r parent name four plain pool (Given e) o =
-    let text = textBytes o.rule (part pool e) in
-    shaped-if r parent (is_written o (length text)) (leaf name (diinTextData text o) stop) (four, plain, tt)
+pub diin-text_shaped : (r : Reader) (parent name : Name) → length name ≡ 4 → r.inner parent name ≡ none
+    → (pool : List ℕ) (text : Text) (o : TextOptions) → Shaped r parent (diin_text_chunk name pool text o)
+unfolding diin_text_chunk given_text_chunk
+diin-text_shaped r parent name four plain pool Absent o = tt
+diin-text_shaped r parent name four plain pool (Given e) o =
+    let text = text_bytes o.rule (part pool e) in
+    shaped_if r parent (is_written o (length text)) (leaf name (diin_text_data text o) stop) (four, plain, tt)

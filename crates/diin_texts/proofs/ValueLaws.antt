@@ -7,11 +7,11 @@ use lib.ListN.{length}
 use Rattle.chunk_names.specs.Name.{Name, ascii, same}
 use Rattle.tree.specs.Value.{value}
 use Rattle.tree.proofs.ValueLaws.{counted-text}
-use Rattle.diin_texts.specs.DiinText.{diinTextData, diinTextValue}
+use Rattle.diin_texts.specs.DiinText.{diin_text_data, diin_text_value}
 use Rattle.texts.specs.declared.text.TextOptions.{TextOptions}
 
 -- DIAR and DITI, with the pad in the data and without it
 pub diin-text-value : (name : Name) → (same name (ascii "DIAR") || same name (ascii "DITI")) ≡ true
-    → (text : List ℕ) (o : TextOptions) → length text < 256 ^ 4 → value (ascii "DIIN") name (diinTextData text o) ≡ diinTextValue text
-unfolding value diinTextData same
+    → (text : List ℕ) (o : TextOptions) → length text < 256 ^ 4 → value (ascii "DIIN") name (diin_text_data text o) ≡ diin_text_value text
+unfolding value diin_text_data same
 diin-text-value name h text o small = rw h (counted-text 4 [] text _ 0 refl small)

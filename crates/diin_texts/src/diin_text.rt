@@ -3,8 +3,8 @@ ghost use Rattle.std.specs.Prelude.{◌++◌};
 ghost use Rattle.chunk.specs.Append.{Appended};
 ghost use Rattle.chunk.specs.Number.{be};
 ghost use Rattle.texts.specs.Extent.{part};
-ghost use Rattle.texts.specs.Text.{textBytes, textPad};
-ghost use Rattle.diin_texts.specs.DiinText.{diinText, givenTextBytes};
+ghost use Rattle.texts.specs.Text.{text_bytes, text_pad};
+ghost use Rattle.diin_texts.specs.DiinText.{diin_text, given_text_bytes};
 
 use chunk::Cursor;
 use texts::extent::Extent;
@@ -26,7 +26,7 @@ pub fn diin_text(
     text: Text,
     options: TextOptions,
 ) -> Cursor
-    ensures { Appended out.old c.at (diinText id pool.now text options) out.new result.at }
+    ensures { Appended out.old c.at (diin_text id pool.now text options) out.new result.at }
 {
     match text {
         Text::Absent => {
@@ -47,7 +47,7 @@ fn given_text(
     text: Extent,
     options: TextOptions,
 ) -> Cursor
-    ensures { Appended out.old c.at (givenTextBytes id (textBytes options.rule (part pool.now text)) options) out.new result.at }
+    ensures { Appended out.old c.at (given_text_bytes id (text_bytes options.rule (part pool.now text)) options) out.new result.at }
 {
     let rule = options.rule;
     let count = texts::text::text_count(rule, pool, text);
@@ -70,7 +70,7 @@ fn diin_text_data(
     options: TextOptions,
 ) -> Cursor
     ensures { Appended out.old c.at
-        (be 4 count ++ textBytes options.rule (part pool.now text) ++ textPad options count)
+        (be 4 count ++ text_bytes options.rule (part pool.now text) ++ text_pad options count)
         out.new result.at }
 {
     let rule = options.rule;

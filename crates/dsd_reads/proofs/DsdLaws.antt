@@ -10,22 +10,22 @@ use native.Mathlib.Omega.{arith}
 use lib.Dec.{ltb}
 use lib.ListN.{length, take, drop, replicate, length-append, length-drop, length-replicate, get_or-replicate, replicate-append-replicate, take-append-drop}
 use lib.Seq.{length-take-le, take_at, drop_at}
-use Rattle.chunk.specs.Rows.{firstRows}
+use Rattle.chunk.specs.Rows.{first_rows}
 use Rattle.sound_reads.specs.declared.place.Place.{Place}
 use Rattle.sound_reads.specs.declared.place.Positions.{Positions}
-use Rattle.dst.specs.Frame.{dsdSound}
+use Rattle.dst.specs.Frame.{dsd_sound}
 use Rattle.dst.specs.Start.{sum, start}
 use Rattle.sound_reads.specs.Place.{place_of}
 use Rattle.sound_reads.specs.Steps.{Inside}
 use Rattle.window.specs.declared.window.Window.{Window}
 use Rattle.sound_reads.specs.declared.lent.Fill.TheVariants.{Filled}
-use Rattle.sound_reads.specs.Positions.{positionsFor, number, between}
+use Rattle.sound_reads.specs.Positions.{positions_for, number, between}
 use Rattle.window.specs.Window.{Wrote}
 use Rattle.sound_reads.specs.Fill.{Filling}
-use Rattle.sound_reads.specs.Lent.{needed_at, contentsWith}
+use Rattle.sound_reads.specs.Lent.{needed_at, contents_with}
 use Rattle.window.proofs.TestLaws.{lt-or-le}
 use Rattle.sound_reads.proofs.PlaceLaws.{place_is, place_end}
-use Rattle.sound_reads.proofs.PositionsLaws.{Nothing, Some, positions-are, positions-known, touching}
+use Rattle.sound_reads.proofs.PositionsLaws.{Nothing, Some, positions_are, positions_known, touching}
 use Rattle.sound_reads.proofs.PartLaws.{part_filled}
 
 pub sum-replicate : (f n : ℕ) → sum (replicate n f) ≡ f * n
@@ -44,8 +44,8 @@ module _ (f n : ℕ) where
   frame-start i h = ap sum (take-replicate f n i h) ∙ sum-replicate f i
 
   -- a place past the sound
-  pub dsd-past : (place : ℕ) → f * n ≤ place → record { position = n; within = place - f * n } ≡ place_of (replicate n f) place
-  dsd-past place h =
+  pub dsd_past : (place : ℕ) → f * n ≤ place → record { position = n; within = place - f * n } ≡ place_of (replicate n f) place
+  dsd_past place h =
       let l = length-replicate n f in
       let s : start (replicate n f) (length (replicate n f)) ≡ f * n = ap (start (replicate n f)) l ∙ frame-start n (omega arith) in
       rw l at (place_end (replicate n f) place (place - f * n) (omega arith))
@@ -55,8 +55,8 @@ module _ (f n : ℕ) where
   frame-sized place h = ⊎_elim (λ l. l) (λ z. let e : f ≡ 0 = omega arith in absurd (not-suc-le-zero (rw (e, zero-mul) at h))) (lt-or-le 0 f)
 
   -- a place in the sound
-  pub dsd-here : (place : ℕ) → place < f * n → record { position = place / f; within = place % f } ≡ place_of (replicate n f) place
-  dsd-here place h =
+  pub dsd_here : (place : ℕ) → place < f * n → record { position = place / f; within = place % f } ≡ place_of (replicate n f) place
+  dsd_here place h =
       let z = frame-sized place h in
       let d = div-add-mod place f in
       let m = mod-lt place z in
@@ -71,7 +71,7 @@ module _ (f n : ℕ) where
   -- bytes from a place in frame `first` on end in frame `last`
   touch : (first within count last : ℕ) → first ≤ last → last < n → within < f → 0 < count → f * last < f * first + within + count
       → (f * first + within + count ≤ f * suc last) ⊎ (suc last ≡ n)
-      → record { first = first; end = suc last } ≡ positionsFor (replicate n f) (start (replicate n f) first + within) count
+      → record { first = first; end = suc last } ≡ positions_for (replicate n f) (start (replicate n f) first + within) count
   touch first within count last o k w c b u =
       let l = length-replicate n f in
       let s = frame-start first (omega arith) in
@@ -81,7 +81,7 @@ module _ (f n : ℕ) where
       let m = mul-suc f first in
       let m' = mul-suc f last in
       sym
-      (positions-are (replicate n f) (start (replicate n f) first + within) count
+      (positions_are (replicate n f) (start (replicate n f) first + within) count
       (record {
         ordered = o;
         known = omega arith;
@@ -95,8 +95,8 @@ module _ (f n : ℕ) where
 
   module _ (first within count : ℕ) (known : first < n) (inside : within < f) (wanted : 0 < count) where
     -- they end in the same frame
-    pub ends-here : count ≤ f - within → record { first = first; end = first + 1 } ≡ positionsFor (replicate n f) (start (replicate n f) first + within) count
-    ends-here h = let m = mul-suc f first in rw add-one (touch first within count first (omega arith) known inside wanted (omega arith) (inl (omega arith)))
+    pub ends_here : count ≤ f - within → record { first = first; end = first + 1 } ≡ positions_for (replicate n f) (start (replicate n f) first + within) count
+    ends_here h = let m = mul-suc f first in rw add-one (touch first within count first (omega arith) known inside wanted (omega arith) (inl (omega arith)))
 
     module _ (more : f - within < count) where
       -- how many frames later the last byte is, less one
@@ -124,7 +124,7 @@ module _ (f n : ℕ) where
 
       -- they end in one of the frames after it
       pub ends-later : (count - (f - within) - 1) / f + 1 < n - first - 1
-          → record { first = first; end = first + 1 + ((count - (f - within) - 1) / f + 1) } ≡ positionsFor (replicate n f) (start (replicate n f) first + within) count
+          → record { first = first; end = first + 1 + ((count - (f - within) - 1) / f + 1) } ≡ positions_for (replicate n f) (start (replicate n f) first + within) count
       unfolding later
       ends-later l =
           let e : first + 1 + ((count - (f - within) - 1) / f + 1) ≡ suc (suc (first + later)) = omega arith in
@@ -132,7 +132,7 @@ module _ (f n : ℕ) where
 
       -- they end in the last frame, or the sound ends before
       pub ends_last : n - first - 1 ≤ (count - (f - within) - 1) / f + 1
-          → record { first = first; end = n } ≡ positionsFor (replicate n f) (start (replicate n f) first + within) count
+          → record { first = first; end = n } ≡ positions_for (replicate n f) (start (replicate n f) first + within) count
       unfolding later
       ends_last l =
           let e : suc (n - 1) ≡ n = omega arith in
@@ -155,8 +155,8 @@ module _ (f n : ℕ) where
       (lt-or-le 0 f)
 
 -- The contents of the positions, cut from what is lent: k rows of f bytes each.
-rows-sizes : (f k : ℕ) (s : List ℕ) → f * k ≤ length s → map (λ (c : List ℕ). length c) (firstRows f k s) ≡ replicate k f
-unfolding firstRows
+rows-sizes : (f k : ℕ) (s : List ℕ) → f * k ≤ length s → map (λ (c : List ℕ). length c) (first_rows f k s) ≡ replicate k f
+unfolding first_rows
 rows-sizes f zero s h = refl
 rows-sizes f (suc k) s h =
     let m = mul-suc f k in
@@ -164,13 +164,13 @@ rows-sizes f (suc k) s h =
     let l : length (take f s) ≡ f = length-take-le f s (omega arith) in
     rw (l, rows-sizes f k (drop f s) (omega arith))
 
-rows-count : (f k : ℕ) (s : List ℕ) → length (firstRows f k s) ≡ k
-unfolding firstRows
+rows-count : (f k : ℕ) (s : List ℕ) → length (first_rows f k s) ≡ k
+unfolding first_rows
 rows-count f zero s = refl
 rows-count f (suc k) s = ap suc (rows-count f k (drop f s))
 
-pub rows-joined : (f k : ℕ) (s : List ℕ) → length s ≡ f * k → dsdSound (firstRows f k s) ≡ s
-unfolding dsdSound flat_map firstRows
+pub rows-joined : (f k : ℕ) (s : List ℕ) → length s ≡ f * k → dsd_sound (first_rows f k s) ≡ s
+unfolding dsd_sound flat_map first_rows
 rows-joined f zero [] h = refl
 rows-joined f zero (x ∷ s) h = let z = mul-zero f in absurd (omega arith)
 rows-joined f (suc k) s h =
@@ -184,13 +184,13 @@ zeros-sizes f (suc k) = rw (length-replicate {A = ℕ} f 0, zeros-sizes f k)
 
 module _ (f : ℕ) (p : Positions) (n : ℕ) (contents : List ℕ) (ordered : p.first ≤ p.end) (known : p.end ≤ n)
     (given : f * number p ≡ length contents) where
-  pub with-sizes : map (λ (c : List ℕ). length c) (contentsWith f p n contents) ≡ replicate n f
-  unfolding contentsWith
+  pub with-sizes : map (λ (c : List ℕ). length c) (contents_with f p n contents) ≡ replicate n f
+  unfolding contents_with
   with-sizes =
       let e : p.first + number p + (n - p.end) ≡ n = omega arith in
-      map-append (λ (c : List ℕ). length c) (replicate p.first (replicate f 0) ++ firstRows f (number p) contents) (replicate (n - p.end) (replicate f 0))
+      map-append (λ (c : List ℕ). length c) (replicate p.first (replicate f 0) ++ first_rows f (number p) contents) (replicate (n - p.end) (replicate f 0))
       ∙ rw (
-        map-append (λ (c : List ℕ). length c) (replicate p.first (replicate f 0)) (firstRows f (number p) contents),
+        map-append (λ (c : List ℕ). length c) (replicate p.first (replicate f 0)) (first_rows f (number p) contents),
         zeros-sizes f p.first,
         zeros-sizes f (n - p.end),
         rows-sizes f (number p) contents (omega arith),
@@ -200,11 +200,11 @@ module _ (f : ℕ) (p : Positions) (n : ℕ) (contents : List ℕ) (ordered : p.
       )
       refl
 
-  pub with_rows : between p (contentsWith f p n contents) ≡ firstRows f (number p) contents
-  unfolding contentsWith
+  pub with_rows : between p (contents_with f p n contents) ≡ first_rows f (number p) contents
+  unfolding contents_with
   with_rows =
       let a : List (List ℕ) = replicate p.first (replicate f 0) in
-      let b = firstRows f (number p) contents in
+      let b = first_rows f (number p) contents in
       let la : length a ≡ p.first = length-replicate p.first (replicate f 0) in
       let l : length (a ++ b) ≡ p.end = rw (length-append, la, rows-count f (number p) contents) (omega arith) in
       ap (drop p.first) (take_at (a ++ b) (replicate (n - p.end) (replicate f 0)) p.end l) ∙ drop_at a b p.first la
@@ -216,17 +216,17 @@ module _ (f n : ℕ) (contents : List ℕ) (w : Window) (out : List ℕ) where
 
   pub wanted-known : (wanted.first ≤ wanted.end) × (wanted.end ≤ n)
   wanted-known =
-      let k = positions-known (replicate n f) w.skip (length out - w.at) (frames-touched f n w.skip (length out - w.at)) in
+      let k = positions_known (replicate n f) w.skip (length out - w.at) (frames-touched f n w.skip (length out - w.at)) in
       let l = length-replicate n f in
       (k.0, omega (arith, k.1))
 
   pub filled-contents : f * number wanted ≡ length contents → {last : List ℕ} {v : Window}
       → Wrote contents (record { at = w.at; skip = (place_of (replicate n f) w.skip).within }) out last v
-      → Filling true (dsdSound (contentsWith f wanted n contents)) w out last
+      → Filling true (dsd_sound (contents_with f wanted n contents)) w out last
       (Filled (record { at = v.at; skip = cond (ltb (place_of (replicate n f) w.skip).position n) 0 (place_of (replicate n f) w.skip).within }))
-  unfolding dsdSound
+  unfolding dsd_sound
   filled-contents given {last} {v} q =
       let k = wanted-known in
-      part_filled (λ (c : List ℕ). c) (contentsWith f wanted n contents) (replicate n f) (with-sizes f wanted n contents k.0 k.1 given) w out
+      part_filled (λ (c : List ℕ). c) (contents_with f wanted n contents) (replicate n f) (with-sizes f wanted n contents k.0 k.1 given) w out
       (frames-touched f n w.skip (length out - w.at)) {last = last} {v = v} n (length-replicate n f)
       (rw (with_rows f wanted n contents k.0 k.1 given, rows-joined f (number wanted) contents (sym given)) q)

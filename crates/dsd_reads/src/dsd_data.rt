@@ -1,11 +1,11 @@
 // DSD sound: the plain contents of its positions.
 ghost use Rattle.std.specs.Prelude.{◌≡◌, ◌*◌, ◌^◌, ◌<◌, eqb, length, replicate};
-ghost use Rattle.dst.specs.Frame.{frameBytes, dsdSound};
+ghost use Rattle.dst.specs.Frame.{frame_bytes, dsd_sound};
 ghost use Rattle.sound_reads.specs.Place.{place_of};
 ghost use Rattle.sound_reads.specs.Steps.{byte_at, Inside};
-ghost use Rattle.sound_reads.specs.Positions.{positionsFor, number};
+ghost use Rattle.sound_reads.specs.Positions.{positions_for, number};
 ghost use Rattle.sound_reads.specs.Fill.{Filling};
-ghost use Rattle.sound_reads.specs.Lent.{needed_at, contentsWith};
+ghost use Rattle.sound_reads.specs.Lent.{needed_at, contents_with};
 
 use dst::frame::frame_bytes;
 use sound_reads::lent::{Fill, filled};
@@ -33,7 +33,7 @@ fn locate(frame: u64, n: u64, place: u64) -> Place
 // The positions that so many bytes from a place on touch.
 fn touched(frame: u64, n: u64, place: Place, count: u64) -> Positions
     requires { Inside (replicate n frame) place }
-    ensures { result ≡ positionsFor (replicate n frame) (byte_at (replicate n frame) place) count }
+    ensures { result ≡ positions_for (replicate n frame) (byte_at (replicate n frame) place) count }
 {
     let first = place.position;
     if (count == 0) | (n <= first as u64) {
@@ -63,7 +63,7 @@ fn touched(frame: u64, n: u64, place: Place, count: u64) -> Positions
 // The positions that a read of so many bytes from a place of the sound on needs: the first that it touches and one past the last, 0 and 0 for
 // none.
 pub fn positions(channels: u8, n: u32, from: u64, count: u64) -> Positions
-    ensures { result ≡ positionsFor (replicate n (frameBytes channels)) from count }
+    ensures { result ≡ positions_for (replicate n (frame_bytes channels)) from count }
 {
     let frame = frame_bytes(channels) as u64;
     let place = locate(frame, n as u64, from);
@@ -74,8 +74,8 @@ pub fn positions(channels: u8, n: u32, from: u64, count: u64) -> Positions
 // positions, joined.
 pub fn fill(out: &mut [u8], w: Window, channels: u8, n: u32, contents: &[u8]) -> Fill
     ensures { Filling
-        (eqb (frameBytes channels * number (needed_at (replicate n (frameBytes channels)) w out.old)) (length contents.now))
-        (dsdSound (contentsWith (frameBytes channels) (needed_at (replicate n (frameBytes channels)) w out.old) n contents.now))
+        (eqb (frame_bytes channels * number (needed_at (replicate n (frame_bytes channels)) w out.old)) (length contents.now))
+        (dsd_sound (contents_with (frame_bytes channels) (needed_at (replicate n (frame_bytes channels)) w out.old) n contents.now))
         w out.old out.new result }
 {
     let at = w.at;

@@ -19,43 +19,43 @@ use Rattle.refusal.proofs.VerdictLaws.{or-accepted}
 use Rattle.build_options.specs.Inputs.{Inputs}
 use Rattle.checks.specs.InputVerdict.{verdict}
 use Rattle.file_tree.specs.Parts.{parts, index_of}
-use Rattle.file_tree.specs.Sound.{Fits, soundBytes}
-use Rattle.file_tree.specs.File.{headerOf, trailerOf, fileOf}
+use Rattle.file_tree.specs.Sound.{Fits, sound_bytes}
+use Rattle.file_tree.specs.File.{header_of, trailer_of, file_of}
 use Rattle.file_tree.proofs.FileLaws.{length-header}
 use Rattle.accepted_file.proofs.AcceptedLaws.{accepted-file}
 use Rattle.accepted_file.proofs.IndexLaws.{index-leads}
 use Rattle.build_answer.specs.declared.answer.Answer.{Answer}
 use Rattle.build_answer.specs.declared.answer.Answer.TheVariants.{Built}
-use Rattle.assemble.specs.Build.{buildVerdict, Outcome, Builds}
+use Rattle.assemble.specs.Build.{build_verdict, Outcome, Builds}
 
 -- a build that answers lengths was accepted, and its buffers begin with header and trailer
 pub record Made (x : Inputs) (h' t' : List ℕ) (a c : ℕ) : Type 0 where
   pub ok : verdict x ≡ Accepted
-  pub header : take a h' ≡ headerOf x
-  pub trailer : take c t' ≡ trailerOf x
+  pub header : take a h' ≡ header_of x
+  pub trailer : take c t' ≡ trailer_of x
 
 pub made : (x : Inputs) (h t : List ℕ) {h' t' : List ℕ} {r : Answer} {a b c : ℕ} → Builds x h h' t t' r → r ≡ Built a b c → Made x h' t' a c
-made x h t {h'} {t'} {r} {a} {b} {c} outcome e = by (buildVerdict x h t) refl outcome
+made x h t {h'} {t'} {r} {a} {b} {c} outcome e = by (build_verdict x h t) refl outcome
   where
-    by : (v : Verdict) → buildVerdict x h t ≡ v → Outcome x v h h' t t' r → Made x h' t' a c
+    by : (v : Verdict) → build_verdict x h t ≡ v → Outcome x v h h' t t' r → Made x h' t' a c
     by Accepted k o =
-        let n : a ≡ length (headerOf x) = cc in
-        let m : c ≡ length (trailerOf x) = cc in
+        let n : a ≡ length (header_of x) = cc in
+        let m : c ≡ length (trailer_of x) = cc in
         record {
           ok = (or-accepted (verdict x) _ k).0;
-          header = rw o.header (take_at (headerOf x) _ a (sym n));
-          trailer = rw o.trailer (take_at (trailerOf x) _ c (sym m));
+          header = rw o.header (take_at (header_of x) _ a (sym n));
+          trailer = rw o.trailer (take_at (trailer_of x) _ c (sym m));
         }
     by (Refused n d) k o = let z : ◌≡◌ {A = ℕ} 0 1 = cc in absurd (omega arith)
 
 module _ (x : Inputs) (h t : List ℕ) {h' t' : List ℕ} {r : Answer} {a b c : ℕ} (promise : Builds x h h' t t' r) (e : r ≡ Built a b c) where
   -- THE BUFFERS of an accepted build are the two sides of the sound in the bytes of the file, for any frames of the given lengths
   pub whole : (fs : List Frame) → Fits x.area.sound x.area x.lengths fs
-      → take a h' ++ soundBytes x.area.sound x.options.dst_crc fs ++ take c t' ≡ bytes (fileOf x fs)
+      → take a h' ++ sound_bytes x.area.sound x.options.dst_crc fs ++ take c t' ≡ bytes (file_of x fs)
   whole fs fits = let m = made x h t promise e in rw (m.header, m.trailer) (accepted-file x m.ok promise.orders fs fits)
 
   -- EACH ENTRY of a DST build's index, less 12 under `FrameData`, is the place of its own frame's DSTF; the header's length is the place from which the offsets count
   pub leads : x.area.sound ≡ Dst → (fs : List Frame) → lengths fs ≡ x.lengths → (i : ℕ) (d : Frame) → i < length fs
-      → Stands (bytes (fileOf x fs)) (num (take 8 (drop (12 * i) (index_of (parts x) (length (headerOf x))))) - shift_of x.options.dst_index_offset)
+      → Stands (bytes (file_of x fs)) (num (take 8 (drop (12 * i) (index_of (parts x) (length (header_of x))))) - shift_of x.options.dst_index_offset)
       (chunk (ascii "DSTF") (get_or fs i d).code)
   leads dst fs same i d l = rw length-header (index-leads x (made x h t promise e).ok promise.orders dst fs same i d l)

@@ -4,9 +4,9 @@ pub mod marker; // marker.rt: markers as records, and the table of their rows
 
 ghost use Rattle.std.specs.Prelude.{◌≡◌, List, ◌≤◌, length, take};
 ghost use Rattle.dsdiff.specs.declared.marker.Marker.{Marker};
-ghost use Rattle.build_options.specs.Inputs.{inputsOf};
+ghost use Rattle.build_options.specs.Inputs.{inputs_of};
 ghost use Rattle.assemble.specs.Build.{Builds};
-ghost use Rattle.dsdiff.specs.Marker.{lookedAt};
+ghost use Rattle.dsdiff.specs.Marker.{looked_at};
 ghost use Rattle.dsdiff.specs.Table.{no_rows, filled};
 
 use build_answer::answer::Answer;
@@ -36,7 +36,7 @@ fn build_part(
     trailer: &mut [u8],
 ) -> Answer
     requires { end ≤ length table.now }
-    ensures { Builds (inputsOf area options property_order info_order local_order local_count pool.now raw.now tracks.now (take end table.now) comments.now callers.now lengths.now)
+    ensures { Builds (inputs_of area options property_order info_order local_order local_count pool.now raw.now tracks.now (take end table.now) comments.now callers.now lengths.now)
         header.old header.new trailer.old trailer.new result }
 {
     assemble::build::build_rows(
@@ -78,7 +78,7 @@ fn build_table(
     trailer: &mut [u8],
 ) -> Answer
     ensures { (ms : List Marker) → table.now ≡ filled no_rows 0 ms → n ≡ length ms
-        → Builds (inputsOf area options property_order info_order local_order local_count pool.now raw.now tracks.now (lookedAt options.custom_markers ms) comments.now callers.now lengths.now)
+        → Builds (inputs_of area options property_order info_order local_order local_count pool.now raw.now tracks.now (looked_at options.custom_markers ms) comments.now callers.now lengths.now)
         header.old header.new trailer.old trailer.new result }
 {
     let mut rows = 0;
@@ -129,7 +129,7 @@ pub fn build(
     header: &mut [u8],
     trailer: &mut [u8],
 ) -> Answer
-    ensures { Builds (inputsOf area options property_order info_order local_order local_count pool.now raw.now tracks.now (lookedAt options.custom_markers markers.now) comments.now callers.now lengths.now)
+    ensures { Builds (inputs_of area options property_order info_order local_order local_count pool.now raw.now tracks.now (looked_at options.custom_markers markers.now) comments.now callers.now lengths.now)
         header.old header.new trailer.old trailer.new result }
 {
     let mut table: Table = [0; 262_140];

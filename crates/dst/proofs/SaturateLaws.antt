@@ -11,8 +11,8 @@ pub moved-zero : (a : ℕ) → a < 2 ^ 64 → moved a 0 ≡ a
 moved-zero a h = omega arith
 
 -- a sum that stopped adds up to one that stops
-pub moved-capped : (a n : ℕ) → moved a (min n (2 ^ 64 - 1)) ≡ moved a n
-moved-capped a n = omega arith
+pub moved_capped : (a n : ℕ) → moved a (min n (2 ^ 64 - 1)) ≡ moved a n
+moved_capped a n = omega arith
 
 pub moved-lt : (a n : ℕ) → moved a n < 2 ^ 64
 moved-lt a n = omega arith

@@ -29,16 +29,16 @@ unfolding start
 start-suc ss k h = sum-suc ss k h
 
 -- past the last unit is the sound's end
-pub start-all : (ss : List ℕ) (k : ℕ) → length ss ≤ k → start ss k ≡ sum ss
+pub start_all : (ss : List ℕ) (k : ℕ) → length ss ≤ k → start ss k ≡ sum ss
 unfolding start
-start-all ss k h = ap sum (take_all k ss h)
+start_all ss k h = ap sum (take_all k ss h)
 
 pub start-add : (ss : List ℕ) (i d : ℕ) → start ss i ≤ start ss (i + d)
 unfolding start
 start-add ss i d = let e = ap sum (take-add i d ss) ∙ sum-append (take i ss) (take d (drop i ss)) in omega arith
 
-pub start-mono : (ss : List ℕ) (i j : ℕ) → i ≤ j → start ss i ≤ start ss j
-start-mono ss i j h =
+pub start_mono : (ss : List ℕ) (i j : ℕ) → i ≤ j → start ss i ≤ start ss j
+start_mono ss i j h =
     let e : i + (j - i) ≡ j = omega arith in
     let l = start-add ss i (j - i) in
     rw e at l

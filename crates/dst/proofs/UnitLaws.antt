@@ -12,33 +12,33 @@ use Rattle.tree.specs.Tree.{Chunks, bytes}
 use Rattle.chunk.proofs.NumberLaws.{length-be}
 use Rattle.chunk.proofs.ChunkLaws.{length-chunk, pad-even}
 use Rattle.tree.proofs.TreeLaws.{bytes-join}
-use Rattle.checksum.specs.Crc.{crcOf}
+use Rattle.checksum.specs.Crc.{crc_of}
 use Rattle.dst.specs.Frame.{Frame}
-use Rattle.dst.specs.Unit.{lengths, unit, unitBytes, units, sound, unitSize, sizes}
+use Rattle.dst.specs.Unit.{lengths, unit, unit_bytes, units, sound, unit_size, sizes}
 use Rattle.dst.specs.Start.{sum, start}
-use Rattle.dst.specs.Head.{rate, frte, dataSize, head, dst}
+use Rattle.dst.specs.Head.{rate, frte, data_size, head, dst}
 use Rattle.dst.proofs.SaturateLaws.{moved-fits}
 use Rattle.dst.proofs.StartLaws.{start-suc, size-at}
 
 -- a unit is its DSTF and, with CRC on, its DSTC
-pub unit-plain : (f : Frame) → unitBytes false f ≡ chunk (ascii "DSTF") f.code
-unfolding unitBytes unit bytes
+pub unit-plain : (f : Frame) → unit_bytes false f ≡ chunk (ascii "DSTF") f.code
+unfolding unit_bytes unit bytes
 unit-plain f = append-nil (chunk (ascii "DSTF") f.code)
 
-pub unit-crc : (f : Frame) → unitBytes true f ≡ chunk (ascii "DSTF") f.code ++ chunk (ascii "DSTC") (be 4 (crcOf f.content))
-unfolding unitBytes unit bytes
-unit-crc f = ap (λ (l : List ℕ). chunk (ascii "DSTF") f.code ++ l) (append-nil (chunk (ascii "DSTC") (be 4 (crcOf f.content))))
+pub unit-crc : (f : Frame) → unit_bytes true f ≡ chunk (ascii "DSTF") f.code ++ chunk (ascii "DSTC") (be 4 (crc_of f.content))
+unfolding unit_bytes unit bytes
+unit-crc f = ap (λ (l : List ℕ). chunk (ascii "DSTF") f.code ++ l) (append-nil (chunk (ascii "DSTC") (be 4 (crc_of f.content))))
 
-pub length-unit : (crc : Bool) (f : Frame) → length (unitBytes crc f) ≡ unitSize crc (length f.code)
-unfolding unitSize occupied
+pub length-unit : (crc : Bool) (f : Frame) → length (unit_bytes crc f) ≡ unit_size crc (length f.code)
+unfolding unit_size occupied
 length-unit false f = rw (unit-plain f, length-chunk (ascii "DSTF") f.code refl) (omega arith)
 length-unit true f =
-    rw (unit-crc f, length-append, length-chunk (ascii "DSTF") f.code refl, length-chunk (ascii "DSTC") (be 4 (crcOf f.content)) refl, length-be 4 (crcOf f.content)) refl
+    rw (unit-crc f, length-append, length-chunk (ascii "DSTF") f.code refl, length-chunk (ascii "DSTC") (be 4 (crc_of f.content)) refl, length-be 4 (crc_of f.content)) refl
 
 -- the units' lengths are their sizes, by the frames' lengths
-pub sizes-of : (crc : Bool) (fs : List Frame) → map (λ (f : Frame). length (unitBytes crc f)) fs ≡ sizes crc (lengths fs)
-sizes-of crc [] = refl
-sizes-of crc (f ∷ fs) = rw (length-unit crc f, sizes-of crc fs)
+pub sizes_of : (crc : Bool) (fs : List Frame) → map (λ (f : Frame). length (unit_bytes crc f)) fs ≡ sizes crc (lengths fs)
+sizes_of crc [] = refl
+sizes_of crc (f ∷ fs) = rw (length-unit crc f, sizes_of crc fs)
 
 pub length-sound : (crc : Bool) (fs : List Frame) → length (sound crc fs) ≡ sum (sizes crc (lengths fs))
 unfolding sound flat_map sum
@@ -47,14 +47,14 @@ length-sound crc (f ∷ fs) = rw (length-append, length-unit crc f, length-sound
 
 -- the chunks of the frames, written out
 pub units-bytes : (crc : Bool) (fs : List Frame) → bytes (units crc fs) ≡ sound crc fs
-unfolding bytes units sound flat_map unitBytes
+unfolding bytes units sound flat_map unit_bytes
 units-bytes crc [] = refl
 units-bytes crc (f ∷ fs) = rw (bytes-join, units-bytes crc fs)
 
 -- a unit ends where the next starts, by the frames' lengths
-pub start-next : (crc : Bool) (ls : List ℕ) (i : ℕ) → i < length ls → start (sizes crc ls) (suc i) ≡ start (sizes crc ls) i + unitSize crc (get_or ls i 0)
+pub start-next : (crc : Bool) (ls : List ℕ) (i : ℕ) → i < length ls → start (sizes crc ls) (suc i) ≡ start (sizes crc ls) i + unit_size crc (get_or ls i 0)
 start-next crc ls i h =
-    start-suc (sizes crc ls) i (rw (length-map ls (unitSize crc)) h) ∙ ap (λ (n : ℕ). start (sizes crc ls) i + n) (size-at (unitSize crc) ls i h)
+    start-suc (sizes crc ls) i (rw (length-map ls (unit_size crc)) h) ∙ ap (λ (n : ℕ). start (sizes crc ls) i + n) (size-at (unit_size crc) ls i h)
 
 -- a start is the sum of what the frames before it occupy
 pub start-front : (crc : Bool) (ls : List ℕ) (i : ℕ) → start (sizes crc ls) i ≡ sum (sizes crc (take i ls))
@@ -62,11 +62,11 @@ unfolding start sum
 start-front crc [] zero = refl
 start-front crc [] (suc i) = refl
 start-front crc (l ∷ ls) zero = refl
-start-front crc (l ∷ ls) (suc i) = ap (λ (n : ℕ). unitSize crc l + n) (start-front crc ls i)
+start-front crc (l ∷ ls) (suc i) = ap (λ (n : ℕ). unit_size crc l + n) (start-front crc ls i)
 
 -- units have even sizes, so the DST chunk has no pad
-pub even-unit : (crc : Bool) (l : ℕ) → unitSize crc l % 2 ≡ 0
-unfolding unitSize occupied
+pub even-unit : (crc : Bool) (l : ℕ) → unit_size crc l % 2 ≡ 0
+unfolding unit_size occupied
 even-unit false l = omega arith
 even-unit true l = omega arith
 
@@ -94,7 +94,7 @@ regroup a b c d e = simp append_assoc
 -- THE DST CHUNK is its head, the sound, and what follows.
 pub dst-bytes : (crc : Bool) (fs : List Frame) (ls : List ℕ) (rest : Chunks) → ls ≡ lengths fs → 18 + sum (sizes crc ls) < 2 ^ 64
     → bytes (dst crc fs rest) ≡ head crc ls ++ sound crc fs ++ bytes rest
-unfolding dst head bytes frte dataSize
+unfolding dst head bytes frte data_size
 dst-bytes crc fs ls rest same fits =
     let name = ascii "DST " in
     let first = frte (length fs) in
@@ -104,12 +104,12 @@ dst-bytes crc fs ls rest same fits =
     let count : length fs ≡ length ls = sym (ap length same ∙ length-map fs (λ (f : Frame). length f.code)) in
     ap (λ (l : List ℕ). l ++ bytes rest) (chunk-even name inside even)
     ∙ ap (λ (n : ℕ). name ++ be 8 n ++ inside ++ bytes rest) (long ∙ sym (moved-fits 18 (sum (sizes crc ls)) fits))
-    ∙ regroup name (be 8 (dataSize (sizes crc ls))) first (bytes (units crc fs)) (bytes rest)
-    ∙ ap (λ (l : List ℕ). name ++ be 8 (dataSize (sizes crc ls)) ++ first ++ l ++ bytes rest) (units-bytes crc fs)
-    ∙ ap (λ (n : ℕ). name ++ be 8 (dataSize (sizes crc ls)) ++ frte n ++ sound crc fs ++ bytes rest) count
+    ∙ regroup name (be 8 (data_size (sizes crc ls))) first (bytes (units crc fs)) (bytes rest)
+    ∙ ap (λ (l : List ℕ). name ++ be 8 (data_size (sizes crc ls)) ++ first ++ l ++ bytes rest) (units-bytes crc fs)
+    ∙ ap (λ (n : ℕ). name ++ be 8 (data_size (sizes crc ls)) ++ frte n ++ sound crc fs ++ bytes rest) count
 
 -- a unit has at most 29 bytes more than its frame
-pub unit-most : (crc : Bool) (l : ℕ) → unitSize crc l ≤ l + 29
-unfolding unitSize occupied
+pub unit-most : (crc : Bool) (l : ℕ) → unit_size crc l ≤ l + 29
+unfolding unit_size occupied
 unit-most false l = omega arith
 unit-most true l = omega arith

@@ -3,12 +3,12 @@ use Rattle.std.specs.Prelude.{ℕ, ◌*◌, Bool, cond}
 use mathlib.Core.List.{List, flat_map}
 
 -- bytes of a frame's plain content
-unfoldable pub frameBytes : ℕ → ℕ
-frameBytes channels = 4704 * channels
+unfoldable pub frame_bytes : ℕ → ℕ
+frame_bytes channels = 4704 * channels
 
 -- bytes of plain content that a read of DST sound is lent for each position: for the CRC only
-unfoldable pub plainBytes : Bool → ℕ → ℕ
-plainBytes crc channels = cond crc (frameBytes channels) 0
+unfoldable pub plain_bytes : Bool → ℕ → ℕ
+plain_bytes crc channels = cond crc (frame_bytes channels) 0
 
 -- a frame: its DST bytes (its code) and its plain content
 pub record Frame : Type 0 where
@@ -16,5 +16,5 @@ pub record Frame : Type 0 where
   pub content : List ℕ
 
 -- DSD sound: the contents of its positions, one after the other
-unfoldable pub dsdSound : List (List ℕ) → List ℕ
-dsdSound contents = flat_map (λ c. c) contents
+unfoldable pub dsd_sound : List (List ℕ) → List ℕ
+dsd_sound contents = flat_map (λ c. c) contents

@@ -17,12 +17,12 @@ unfoldable pub frte : ℕ → List ℕ
 frte frames = chunk (ascii "FRTE") (rate frames)
 
 -- the DST chunk's data size, FRTE and the units (at most the largest u64, which says that it does not fit)
-unfoldable pub dataSize : List ℕ → ℕ
-dataSize ss = moved 18 (sum ss)
+unfoldable pub data_size : List ℕ → ℕ
+data_size ss = moved 18 (sum ss)
 
 -- the header of the DST chunk, and FRTE
 unfoldable pub head : Bool → List ℕ → List ℕ
-head crc ls = ascii "DST " ++ be 8 (dataSize (sizes crc ls)) ++ frte (length ls)
+head crc ls = ascii "DST " ++ be 8 (data_size (sizes crc ls)) ++ frte (length ls)
 
 -- the DST chunk, before others
 unfoldable pub dst : Bool → List Frame → Chunks → Chunks

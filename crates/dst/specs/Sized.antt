@@ -7,5 +7,5 @@ use Rattle.chunk_names.specs.Name.{ascii}
 use Rattle.dst.specs.Head.{frte}
 
 -- `head`, of so many frames whose units have so many bytes together
-unfoldable pub headSized : ℕ → ℕ → List ℕ
-headSized bytes frames = ascii "DST " ++ be 8 (moved 18 bytes) ++ frte frames
+unfoldable pub head_sized : ℕ → ℕ → List ℕ
+head_sized bytes frames = ascii "DST " ++ be 8 (moved 18 bytes) ++ frte frames

@@ -5,15 +5,15 @@ use Rattle.chunk.specs.Number.{be}
 use Rattle.chunk_names.specs.Name.{ascii}
 use Rattle.chunk.specs.Chunk.{occupied}
 use Rattle.tree.specs.Tree.{Chunks, stop, leaf, join, bytes}
-use Rattle.checksum.specs.Crc.{crcOf}
+use Rattle.checksum.specs.Crc.{crc_of}
 use Rattle.dst.specs.Frame.{Frame}
 
 -- a frame's unit: its DSTF chunk and, with CRC on, its DSTC chunk
 unfoldable pub unit : Bool → Frame → Chunks
-unit crc f = leaf (ascii "DSTF") f.code (cond crc (leaf (ascii "DSTC") (be 4 (crcOf f.content)) stop) stop)
+unit crc f = leaf (ascii "DSTF") f.code (cond crc (leaf (ascii "DSTC") (be 4 (crc_of f.content)) stop) stop)
 
-unfoldable pub unitBytes : Bool → Frame → List ℕ
-unitBytes crc f = bytes (unit crc f)
+unfoldable pub unit_bytes : Bool → Frame → List ℕ
+unit_bytes crc f = bytes (unit crc f)
 
 -- the chunks of frames
 unfoldable pub units : Bool → List Frame → Chunks
@@ -22,16 +22,16 @@ units crc (f ∷ fs) = join (unit crc f) (units crc fs)
 
 -- the sound: every frame's unit
 unfoldable pub sound : Bool → List Frame → List ℕ
-sound crc fs = flat_map (unitBytes crc) fs
+sound crc fs = flat_map (unit_bytes crc) fs
 
 -- how many DST bytes each frame has
 abbrev pub lengths : List Frame → List ℕ
 lengths fs = map (λ (f : Frame). length f.code) fs
 
 -- what a frame of so many DST bytes occupies
-unfoldable pub unitSize : Bool → ℕ → ℕ
-unitSize crc l = occupied l + cond crc 16 0
+unfoldable pub unit_size : Bool → ℕ → ℕ
+unit_size crc l = occupied l + cond crc 16 0
 
 -- the sizes of the units of frames with these lengths
 abbrev pub sizes : Bool → List ℕ → List ℕ
-sizes crc ls = map (unitSize crc) ls
+sizes crc ls = map (unit_size crc) ls

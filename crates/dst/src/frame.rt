@@ -1,19 +1,19 @@
 // A frame's plain content.
 ghost use Rattle.std.specs.Prelude.{◌≡◌, cond};
-ghost use Rattle.dst.specs.Frame.{frameBytes, plainBytes};
+ghost use Rattle.dst.specs.Frame.{frame_bytes, plain_bytes};
 
 const FRAME_BYTES_PER_CHANNEL: usize = 4704;
 
 // Bytes of a frame's plain content.
 pub fn frame_bytes(channels: u8) -> usize
-    ensures { result ≡ frameBytes channels }
+    ensures { result ≡ frame_bytes channels }
 {
     FRAME_BYTES_PER_CHANNEL * channels as usize
 }
 
 // Bytes of plain content that a read of DST sound is lent for each position: for the CRC only.
 pub fn plain_bytes(crc: bool, channels: u8) -> usize
-    ensures { result ≡ plainBytes crc channels }
+    ensures { result ≡ plain_bytes crc channels }
 {
     if crc {
         return frame_bytes(channels);

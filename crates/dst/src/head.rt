@@ -1,7 +1,7 @@
 // The DST chunk up to its first frame.
 ghost use Rattle.chunk.specs.Append.{Appended};
 ghost use Rattle.dst.specs.Head.{rate, frte, head};
-ghost use Rattle.dst.specs.Sized.{headSized};
+ghost use Rattle.dst.specs.Sized.{head_sized};
 
 use crate::unit::{units, with_frte};
 use chunk::Cursor;
@@ -29,7 +29,7 @@ fn frte(c: Cursor, out: &mut [u8], frames: u32) -> Cursor
 
 // The header of the DST chunk, and FRTE, of so many frames whose units have so many bytes together.
 pub fn head_sized(c: Cursor, out: &mut [u8], bytes: u64, frames: usize) -> Cursor
-    ensures { Appended out.old c.at (headSized bytes frames) out.new result.at }
+    ensures { Appended out.old c.at (head_sized bytes frames) out.new result.at }
 {
     let c1 = c.chunk_head(out, *b"DST ", with_frte(bytes));
     frte(c1, out, (frames % 0x1_0000_0000) as u32)

@@ -1,9 +1,9 @@
 // A frame's unit: its DSTF chunk and, with CRC on, its DSTC chunk. Sums of sizes stop at the largest u64, which says that they do not fit.
 ghost use Rattle.std.specs.Prelude.{◌≡◌, ◌-◌, ◌^◌, ◌≤◌, min, length};
 ghost use Rattle.chunk.specs.Append.{moved};
-ghost use Rattle.dst.specs.Unit.{unitSize, sizes};
+ghost use Rattle.dst.specs.Unit.{unit_size, sizes};
 ghost use Rattle.dst.specs.Start.{sum, start};
-ghost use Rattle.dst.specs.Head.{dataSize};
+ghost use Rattle.dst.specs.Head.{data_size};
 
 use chunk::chunks::occupied;
 
@@ -25,7 +25,7 @@ pub fn plus(a: u64, b: u64) -> u64
 
 // What a frame of so many DST bytes occupies.
 pub fn unit_size(crc: bool, length: u32) -> u64
-    ensures { result ≡ unitSize crc length }
+    ensures { result ≡ unit_size crc length }
 {
     let dstf = occupied(length as u64);
     if crc {
@@ -90,7 +90,7 @@ pub(crate) fn with_frte(bytes: u64) -> u64
 
 // The data size of the DST chunk: FRTE and the units.
 pub fn data_size(crc: bool, lengths: &[u32]) -> u64
-    ensures { result ≡ dataSize (sizes crc lengths.now) }
+    ensures { result ≡ data_size (sizes crc lengths.now) }
 {
     with_frte(units(crc, lengths))
 }

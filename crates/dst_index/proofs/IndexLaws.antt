@@ -17,9 +17,9 @@ use Rattle.chunk.proofs.NumberLaws.{length-be, num-be}
 use Rattle.chunk.proofs.AppendLaws.{moved-moved, ◌then◌, kept, overlay-out, overrun}
 use Rattle.chunk.proofs.ChunkLaws.{pad-even}
 use Rattle.tree.proofs.TreeLaws.{bytes-leaf}
-use Rattle.checksum.specs.Crc.{crcOf}
+use Rattle.checksum.specs.Crc.{crc_of}
 use Rattle.dst.specs.Frame.{Frame}
-use Rattle.dst.specs.Unit.{lengths, unit, unitBytes, sound, unitSize, sizes}
+use Rattle.dst.specs.Unit.{lengths, unit, unit_bytes, sound, unit_size, sizes}
 use Rattle.dst.specs.Start.{sum, start}
 use Rattle.dst.specs.Head.{head}
 use Rattle.dst_index.specs.Index.{shift_of, entry, entry_of, joined, index, dsti, Stands}
@@ -49,10 +49,10 @@ index-none crc at = refl
 
 -- THE RUNNING SUM: after the first entry stand those of the other frames, whose first offset is where the first unit ends
 pub index-cons : (crc : Bool) (at l : ℕ) (ls : List ℕ) → at < 2 ^ 64
-    → index crc at (l ∷ ls) ≡ entry at l ++ index crc (moved at (unitSize crc l)) ls
+    → index crc at (l ∷ ls) ≡ entry at l ++ index crc (moved at (unit_size crc l)) ls
 unfolding index start sum
 index-cons crc at l ls s =
-    let behind = moved at (unitSize crc l) in
+    let behind = moved at (unit_size crc l) in
     let later : (k : ℕ) → entry_of crc at (l ∷ ls) (suc k) ≡ entry_of crc behind ls k = λ k. rw moved-moved in
     rw (
       joined-first (entry_of crc at (l ∷ ls)) (length ls),
@@ -88,9 +88,9 @@ unfolding dsti
 length-dsti crc at ls = simp (length-append, length-be, length-index) refl
 
 -- entries that come after the buffer's end are only measured
-pub index-past : (crc : Bool) (at : ℕ) (ls : List ℕ) {ws hs xs : List ℕ} {d a b n : ℕ} → Appended ws d hs xs a → length xs ≤ a → n ≡ moved 0 (12 * length ls) → b ≡ moved a n
+pub index_past : (crc : Bool) (at : ℕ) (ls : List ℕ) {ws hs xs : List ℕ} {d a b n : ℕ} → Appended ws d hs xs a → length xs ≤ a → n ≡ moved 0 (12 * length ls) → b ≡ moved a n
     → Appended ws d (hs ++ index crc at ls) xs b
-index-past crc at ls {xs = xs} {a = a} head past size e =
+index_past crc at ls {xs = xs} {a = a} head past size e =
     head
     then record {
       short = omega (arith, kept head, head.short);
@@ -99,9 +99,9 @@ index-past crc at ls {xs = xs} {a = a} head past size e =
     }
 
 -- entries have no pad: their size is even, or such that a cursor can move no further
-pub index-unpadded : (head : List ℕ) (crc : Bool) (at : ℕ) (ls : List ℕ) {xs ys : List ℕ} {a b n : ℕ} → n ≡ moved 0 (12 * length ls)
+pub index_unpadded : (head : List ℕ) (crc : Bool) (at : ℕ) (ls : List ℕ) {xs ys : List ℕ} {a b n : ℕ} → n ≡ moved 0 (12 * length ls)
     → Appended xs a (head ++ index crc at ls ++ pad n) ys b → Appended xs a (head ++ index crc at ls) ys b
-index-unpadded head crc at ls {xs} {ys} {a} {b} {n} size p = go (dec_lt (12 * length ls) (2 ^ 64 - 1))
+index_unpadded head crc at ls {xs} {ys} {a} {b} {n} size p = go (dec_lt (12 * length ls) (2 ^ 64 - 1))
   where
     go : Dec (12 * length ls < 2 ^ 64 - 1) → Appended xs a (head ++ index crc at ls) ys b
     go (yes l) =
@@ -126,13 +126,13 @@ index-from crc at [] (suc i) s = ap (drop (12 * suc i)) (index-none crc at) ∙ 
 index-from crc at (l ∷ ls) (suc i) s =
     ap (drop (12 * suc i)) (index-cons crc at l ls s)
     ∙ after-entry at l _ i
-    ∙ index-from crc (moved at (unitSize crc l)) ls i (moved-lt at _)
+    ∙ index-from crc (moved at (unit_size crc l)) ls i (moved-lt at _)
     ∙ rw moved-moved
 
 -- from entry i on
 entry_first : (crc : Bool) (at : ℕ) (ls : List ℕ) (i : ℕ) → at < 2 ^ 64 → i < length ls
     → let offset = moved at (start (sizes crc ls) i) in
-    drop (12 * i) (index crc at ls) ≡ be 8 offset ++ (be 4 (get_or ls i 0) ++ index crc (moved offset (unitSize crc (get_or ls i 0))) (drop (suc i) ls))
+    drop (12 * i) (index crc at ls) ≡ be 8 offset ++ (be 4 (get_or ls i 0) ++ index crc (moved offset (unit_size crc (get_or ls i 0))) (drop (suc i) ls))
 unfolding entry
 entry_first crc at ls i s h =
     let offset = moved at (start (sizes crc ls) i) in
@@ -148,9 +148,9 @@ entry_at crc at ls i h fits =
     rw (entry_first crc at ls i (omega arith) h, take_at (be 8 (moved at (start (sizes crc ls) i))) _ 8 (length-be 8 _), moved-fits at _ fits)
     (num-be 8 _ fits)
 
-pub entry_length : (crc : Bool) (at : ℕ) (ls : List ℕ) (i : ℕ) → at < 2 ^ 64 → i < length ls → get_or ls i 0 < 2 ^ 32
+pub entry_length_lem : (crc : Bool) (at : ℕ) (ls : List ℕ) (i : ℕ) → at < 2 ^ 64 → i < length ls → get_or ls i 0 < 2 ^ 32
     → num (take 4 (drop (12 * i + 8) (index crc at ls))) ≡ get_or ls i 0
-entry_length crc at ls i s h short =
+entry_length_lem crc at ls i s h short =
     rw (← drop-drop 8 (12 * i) (index crc at ls), entry_first crc at ls i s h, drop_at (be 8 (moved at (start (sizes crc ls) i))) _ 8 (length-be 8 _), take_at (be 4 (get_or ls i 0)) _ 4 (length-be 4 _))
     (num-be 4 _ short)
 
@@ -162,21 +162,21 @@ record Cut (crc : Bool) (fs : List Frame) (i : ℕ) (d : Frame) : Type 0 where
   long : length early ≡ start (sizes crc (lengths fs)) i
 
 cut : (crc : Bool) (fs : List Frame) (i : ℕ) (d : Frame) → i < length fs → Cut crc fs i d
-unfolding sound flat_map unitBytes unit bytes start sum
+unfolding sound flat_map unit_bytes unit bytes start sum
 cut crc [] i d h = absurd (not-suc-le-zero h)
 cut crc (f ∷ fs) zero d h = record {
   early = [];
-  late = bytes (cond crc (leaf (ascii "DSTC") (be 4 (crcOf f.content)) stop) stop) ++ sound crc fs;
-  whole = append_assoc (chunk (ascii "DSTF") f.code) (bytes (cond crc (leaf (ascii "DSTC") (be 4 (crcOf f.content)) stop) stop)) (sound crc fs);
+  late = bytes (cond crc (leaf (ascii "DSTC") (be 4 (crc_of f.content)) stop) stop) ++ sound crc fs;
+  whole = append_assoc (chunk (ascii "DSTF") f.code) (bytes (cond crc (leaf (ascii "DSTC") (be 4 (crc_of f.content)) stop) stop)) (sound crc fs);
   long = refl;
 }
 cut crc (f ∷ fs) (suc i) d h =
     let c = cut crc fs i d (le_of_suc-le-suc h) in
     record {
-      early = unitBytes crc f ++ c.early;
+      early = unit_bytes crc f ++ c.early;
       late = c.late;
-      whole = ap (λ (l : List ℕ). unitBytes crc f ++ l) c.whole ∙ sym (append_assoc (unitBytes crc f) c.early _);
-      long = rw (length-append (unitBytes crc f) c.early, length-unit crc f, c.long);
+      whole = ap (λ (l : List ℕ). unit_bytes crc f ++ l) c.whole ∙ sym (append_assoc (unit_bytes crc f) c.early _);
+      long = rw (length-append (unit_bytes crc f) c.early, length-unit crc f, c.long);
     }
 
 regroup : (h e f l t : List ℕ) → h ++ (e ++ (f ++ l)) ++ t ≡ (h ++ e) ++ (f ++ (l ++ t))

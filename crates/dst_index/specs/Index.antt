@@ -1,5 +1,5 @@
 -- The index of the frames (01: "DSTI .. holds per frame an 8-byte offset of the DSTF header (12 more under `FrameData`) and a 4-byte length"). Offsets count from the file's
--- first byte: the first entry's is that of the first sound byte (file_tree: specs/Parts `firstOffset`, specs/File `place`), and `shift_of` more.
+-- first byte: the first entry's is that of the first sound byte (file_tree: specs/Parts `first_offset`, specs/File `place`), and `shift_of` more.
 -- Assumes nothing.
 use Rattle.std.specs.Prelude.{ℕ, zero, suc, ◌*◌, ◌≡◌, Bool, List, [], ◌++◌, length, take, drop, get_or}
 use Rattle.chunk.specs.Append.{moved}

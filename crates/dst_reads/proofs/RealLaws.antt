@@ -11,16 +11,16 @@ use lib.Seq.{take_at, drop_at}
 use Rattle.window.specs.declared.window.Window.{Window}
 use Rattle.sound_reads.specs.declared.place.Positions.{Positions}
 use Rattle.sound_reads.specs.declared.lent.Fill.{Fill}
-use Rattle.dst.specs.Frame.{Frame, frameBytes, plainBytes}
-use Rattle.dst.specs.Unit.{unitBytes, sound, lengths, sizes}
+use Rattle.dst.specs.Frame.{Frame, frame_bytes, plain_bytes}
+use Rattle.dst.specs.Unit.{unit_bytes, sound, lengths, sizes}
 use Rattle.dst.specs.Start.{sum}
 use Rattle.sound_reads.specs.Positions.{between}
 use Rattle.sound_reads.specs.Fill.{Filling}
-use Rattle.sound_reads.specs.Lent.{needed_at, isLent, lentFrames, framesWith, codes, contents, Even, Plain}
+use Rattle.sound_reads.specs.Lent.{needed_at, is_lent, lent_frames, frames_with, codes, contents, Even, Plain}
 use Rattle.sound_reads.proofs.SameLaws.{same_refl}
-use Rattle.dst.proofs.UnitLaws.{unit-plain, sizes-of}
-use Rattle.sound_reads.proofs.LentLaws.{lent-real}
-use Rattle.sound_reads.proofs.PartLaws.{map-slice, part-real}
+use Rattle.dst.proofs.UnitLaws.{unit-plain, sizes_of}
+use Rattle.sound_reads.proofs.LentLaws.{lent_real}
+use Rattle.sound_reads.proofs.PartLaws.{map_slice, part_real}
 use Rattle.dst_reads.proofs.FillLaws.{units-touched, sizes-with, between-with}
 
 even-take : (n k : ℕ) (fs : List Frame) → Even n fs → Even n (take k fs)
@@ -49,17 +49,17 @@ length-lengths (f ∷ fs) = ap suc (length-lengths fs)
 
 -- what frames lend has the lengths that it should
 lent-given : (crc : Bool) (channels : ℕ) (fs : List Frame) → Plain crc channels fs
-    → isLent (plainBytes crc channels) (lengths fs) (lengths fs) (codes fs) (contents crc fs) ≡ true
-unfolding isLent plainBytes
+    → is_lent (plain_bytes crc channels) (lengths fs) (lengths fs) (codes fs) (contents crc fs) ≡ true
+unfolding is_lent plain_bytes
 lent-given true channels fs e =
     rw (same_refl (lengths fs), eq-eqb (sum (lengths fs)) (length (codes fs)) (sum_codes fs), length-lengths fs)
-    (eq-eqb (frameBytes channels * length fs) (length (flat_map (λ (f : Frame). f.content) fs)) (length-contents (frameBytes channels) fs e))
+    (eq-eqb (frame_bytes channels * length fs) (length (flat_map (λ (f : Frame). f.content) fs)) (length-contents (frame_bytes channels) fs e))
 lent-given false channels fs e =
     rw (same_refl (lengths fs), eq-eqb (sum (lengths fs)) (length (codes fs)) (sum_codes fs)) (eq-eqb (0 * length (lengths fs)) 0 (zero-mul (length (lengths fs))))
 
 -- and is cut to their units
-plain-lent : (fs : List Frame) → sound false (lentFrames 0 (lengths fs) (codes fs) []) ≡ sound false fs
-unfolding sound flat_map lentFrames
+plain-lent : (fs : List Frame) → sound false (lent_frames 0 (lengths fs) (codes fs) []) ≡ sound false fs
+unfolding sound flat_map lent_frames
 plain-lent [] = refl
 plain-lent (f ∷ fs) =
     rw (
@@ -71,13 +71,13 @@ plain-lent (f ∷ fs) =
     )
 
 lent-sound : (crc : Bool) (channels : ℕ) (fs : List Frame) → Plain crc channels fs
-    → sound crc (lentFrames (plainBytes crc channels) (lengths fs) (codes fs) (contents crc fs)) ≡ sound crc fs
-unfolding plainBytes
-lent-sound true channels fs e = ap (sound true) (lent-real (frameBytes channels) fs e)
+    → sound crc (lent_frames (plain_bytes crc channels) (lengths fs) (codes fs) (contents crc fs)) ≡ sound crc fs
+unfolding plain_bytes
+lent-sound true channels fs e = ap (sound true) (lent_real (frame_bytes channels) fs e)
 lent-sound false channels fs e = plain-lent fs
 
 plain-between : (crc : Bool) (channels : ℕ) (fs : List Frame) (p : Positions) → Plain crc channels fs → Plain crc channels (between p fs)
-plain-between true channels fs p e = even-drop (frameBytes channels) p.first (take p.end fs) (even-take (frameBytes channels) p.end fs e)
+plain-between true channels fs p e = even-drop (frame_bytes channels) p.first (take p.end fs) (even-take (frame_bytes channels) p.end fs e)
 plain-between false channels fs p e = tt
 
 -- DST: the needed frames of the file are lent
@@ -89,32 +89,32 @@ module _ (crc : Bool) (channels : ℕ) (fs : List Frame) (plain : Plain crc chan
   some = between needs fs
 
   lengths_some : lengths some ≡ between needs (lengths fs)
-  lengths_some = map-slice (λ (f : Frame). length f.code) needs.first needs.end fs
+  lengths_some = map_slice (λ (f : Frame). length f.code) needs.first needs.end fs
 
   plain-some : Plain crc channels some
   plain-some = plain-between crc channels fs needs plain
 
   -- what is lent has the lengths that it should
-  pub given : isLent (plainBytes crc channels) (between needs (lengths fs)) (lengths some) (codes some) (contents crc some) ≡ true
+  pub given : is_lent (plain_bytes crc channels) (between needs (lengths fs)) (lengths some) (codes some) (contents crc some) ≡ true
   given = rw (← lengths_some) (lent-given crc channels some plain-some)
 
   -- what a read shows of the sound that has the needed frames is what it shows of the file's
   pub same-sound : {last : List ℕ} {r : Fill}
-      → Filling true (sound crc (framesWith (plainBytes crc channels) needs (lengths fs) (codes some) (contents crc some))) w out last r
+      → Filling true (sound crc (frames_with (plain_bytes crc channels) needs (lengths fs) (codes some) (contents crc some))) w out last r
       → Filling true (sound crc fs) w out last r
   unfolding sound
   same-sound q =
-      let n = plainBytes crc channels in
+      let n = plain_bytes crc channels in
       let ls = lengths fs in
-      part-real (unitBytes crc) (framesWith n needs ls (codes some) (contents crc some)) fs (sizes crc ls)
+      part_real (unit_bytes crc) (frames_with n needs ls (codes some) (contents crc some)) fs (sizes crc ls)
       (sizes-with crc ls n (lengths some) (codes some) (contents crc some) w out given)
-      (sizes-of crc fs) w out (units-touched crc ls w.skip (length out - w.at))
-      (ap (flat_map (unitBytes crc)) (between-with crc ls n (lengths some) (codes some) (contents crc some) w out given) ∙ lent-sound crc channels some plain-some)
+      (sizes_of crc fs) w out (units-touched crc ls w.skip (length out - w.at))
+      (ap (flat_map (unit_bytes crc)) (between-with crc ls n (lengths some) (codes some) (contents crc some) w out given) ∙ lent-sound crc channels some plain-some)
       q
 
   -- what `dst_data::fill` promises of those frames is a read of the file
   pub read_real : {last : List ℕ} {r : Fill}
-      → Filling (isLent (plainBytes crc channels) (between needs (lengths fs)) (lengths some) (codes some) (contents crc some))
-      (sound crc (framesWith (plainBytes crc channels) needs (lengths fs) (codes some) (contents crc some))) w out last r
+      → Filling (is_lent (plain_bytes crc channels) (between needs (lengths fs)) (lengths some) (codes some) (contents crc some))
+      (sound crc (frames_with (plain_bytes crc channels) needs (lengths fs) (codes some) (contents crc some))) w out last r
       → Filling true (sound crc fs) w out last r
   read_real q = same-sound (rw given at q)

@@ -11,19 +11,19 @@ use lib.Bits.{bit_or, and_le_l, and_le_r, or_add_and}
 use lib.ListN.{length, get_or, length-map}
 use Rattle.sound_reads.specs.declared.place.Place.{Place}
 use Rattle.chunk.specs.Chunk.{occupied}
-use Rattle.dst.specs.Unit.{unitSize}
+use Rattle.dst.specs.Unit.{unit_size}
 use Rattle.dst.specs.Start.{start}
 use Rattle.sound_reads.specs.Place.{place_of}
 use Rattle.sound_reads.specs.Steps.{Inside}
-use Rattle.sound_reads.specs.Positions.{positionsFor}
+use Rattle.sound_reads.specs.Positions.{positions_for}
 use Rattle.window.proofs.TestLaws.{lt-or-le}
 use Rattle.dst.proofs.StartLaws.{start-zero, start-suc, size-at}
 use Rattle.sound_reads.proofs.PlaceLaws.{place_is, place_end}
-use Rattle.sound_reads.proofs.PositionsLaws.{positions-are}
+use Rattle.sound_reads.proofs.PositionsLaws.{positions_are}
 
 -- every unit has a byte
-pub unit-sized : (crc : Bool) (l : ℕ) → 0 < unitSize crc l
-unfolding unitSize occupied
+pub unit-sized : (crc : Bool) (l : ℕ) → 0 < unit_size crc l
+unfolding unit_size occupied
 unit-sized crc l = omega arith
 
 -- a number that has the bits of another is no smaller
@@ -71,8 +71,8 @@ module _ (f : ℕ → ℕ) (ls : List ℕ) where
       let j : k + (i + 1) ≡ suc (k + i) = omega arith in
       rw j (omega arith)
 
-  pub walk-starts : (place : ℕ) → start (map f ls) 0 + place ≡ place
-  walk-starts place = rw (start-zero (map f ls)) (zero-add place)
+  pub walk_starts : (place : ℕ) → start (map f ls) 0 + place ≡ place
+  walk_starts place = rw (start-zero (map f ls)) (zero-add place)
 
   module _ (place k within : ℕ) (b : start (map f ls) k + within ≡ place) where
     -- the place is in the unit of frame k
@@ -86,30 +86,30 @@ module _ (f : ℕ → ℕ) (ls : List ℕ) where
     walk-on h l = let e = next_start k h in rw add-one (omega arith)
 
     -- it is past every unit
-    pub walk-past : k ≡ length ls → record { position = k; within = within } ≡ place_of (map f ls) place
-    walk-past e =
+    pub walk_past : k ≡ length ls → record { position = k; within = within } ≡ place_of (map f ls) place
+    walk_past e =
         let n : k ≡ length (map f ls) = e ∙ sym length-sizes in
         rw n (place_end (map f ls) place within (rw n at b))
 
   -- the walk from a place on, for so many bytes
   module _ (sized : (l : ℕ) → 0 < f l) (first within₀ count : ℕ) (given : first < length ls) (inside : within₀ < f (get_or ls first 0)) (wanted : 0 < count) where
-    pub reach-starts : Reach f ls first within₀ count first within₀ count
-    reach-starts = record { onward = omega arith; known = omega arith; more = wanted; place = refl; before = λ h. inside }
+    pub reach_starts : Reach f ls first within₀ count first within₀ count
+    reach_starts = record { onward = omega arith; known = omega arith; more = wanted; place = refl; before = λ h. inside }
 
     module _ {k within left : ℕ} (r : Reach f ls first within₀ count k within left) where
       last-touched : (last : ℕ) → first ≤ last → last < length ls → start (map f ls) last < start (map f ls) first + within₀ + count
           → start (map f ls) last < start (map f ls) (suc last)
           → (start (map f ls) first + within₀ + count ≤ start (map f ls) (suc last)) ⊎ (suc last ≡ length (map f ls))
-          → positionsFor (map f ls) (start (map f ls) first + within₀) count ≡ record { first = first; end = suc last }
+          → positions_for (map f ls) (start (map f ls) first + within₀) count ≡ record { first = first; end = suc last }
       last-touched last o k b s u =
           let n = length-sizes in
           let e = next_start first given in
-          positions-are (map f ls) (start (map f ls) first + within₀) count
+          positions_are (map f ls) (start (map f ls) first + within₀) count
           (record { ordered = o; known = omega arith; low = omega arith; high = omega arith; wanted = wanted; begun = b; sized = s; full = u })
 
       -- the last byte is in the unit of frame k
       pub reach_here : k < length ls → left ≤ f (get_or ls k 0) - within
-          → record { first = first; end = k + 1 } ≡ positionsFor (map f ls) (start (map f ls) first + within₀) count
+          → record { first = first; end = k + 1 } ≡ positions_for (map f ls) (start (map f ls) first + within₀) count
       reach_here h l =
           let e = next_start k h in
           let p = r.place in
@@ -118,8 +118,8 @@ module _ (f : ℕ → ℕ) (ls : List ℕ) where
           rw add-one (sym (last-touched k r.onward h (omega arith) (omega arith) (inl (omega arith))))
 
       -- it is past it
-      pub reach-on : k < length ls → f (get_or ls k 0) - within < left → Reach f ls first within₀ count (k + 1) 0 (left - (f (get_or ls k 0) - within))
-      reach-on h l =
+      pub reach_on : k < length ls → f (get_or ls k 0) - within < left → Reach f ls first within₀ count (k + 1) 0 (left - (f (get_or ls k 0) - within))
+      reach_on h l =
           let e = next_start k h in
           let p = r.place in
           let b = r.before h in
@@ -128,8 +128,8 @@ module _ (f : ℕ → ℕ) (ls : List ℕ) where
           (record { onward = omega arith; known = h; more = omega arith; place = omega arith; before = λ g. sized (get_or ls (suc k) 0) })
 
       -- the sound ends before
-      pub reach-end : length ls ≤ k → record { first = first; end = k } ≡ positionsFor (map f ls) (start (map f ls) first + within₀) count
-      reach-end h =
+      pub reach_end : length ls ≤ k → record { first = first; end = k } ≡ positions_for (map f ls) (start (map f ls) first + within₀) count
+      reach_end h =
           let n = length-sizes in
           let g = r.known in
           let p = r.place in

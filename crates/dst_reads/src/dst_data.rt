@@ -3,14 +3,14 @@ ghost use Rattle.std.specs.Prelude.{◌≡◌, ◌*◌, length};
 ghost use Rattle.chunk_names.specs.Name.{ascii};
 ghost use Rattle.chunk.specs.Number.{be};
 ghost use Rattle.chunk.specs.Chunk.{chunk};
-ghost use Rattle.checksum.specs.Crc.{crcOf};
-ghost use Rattle.dst.specs.Frame.{plainBytes};
-ghost use Rattle.dst.specs.Unit.{unitBytes, sound, sizes};
+ghost use Rattle.checksum.specs.Crc.{crc_of};
+ghost use Rattle.dst.specs.Frame.{plain_bytes};
+ghost use Rattle.dst.specs.Unit.{unit_bytes, sound, sizes};
 ghost use Rattle.dst.specs.Start.{sum};
-ghost use Rattle.sound_reads.specs.Positions.{positionsFor, between};
+ghost use Rattle.sound_reads.specs.Positions.{positions_for, between};
 ghost use Rattle.window.specs.Window.{Wrote};
 ghost use Rattle.sound_reads.specs.Fill.{Filling};
-ghost use Rattle.sound_reads.specs.Lent.{needed_at, isLent, lentFrames, framesWith};
+ghost use Rattle.sound_reads.specs.Lent.{needed_at, is_lent, lent_frames, frames_with};
 
 use crate::walk::{locate, touched};
 use checksum::crc::crc;
@@ -36,7 +36,7 @@ fn dstf(out: &mut [u8], w: Window, frame: &[u8]) -> Window
 
 // A DSTC chunk with the CRC of a frame's plain content.
 fn dstc_bytes(content: &[u8]) -> [u8; 16]
-    ensures { result ≡ chunk (ascii "DSTC") (be 4 (crcOf content.now)) }
+    ensures { result ≡ chunk (ascii "DSTC") (be 4 (crc_of content.now)) }
 {
     let mut bytes = [0u8; 16];
     let c = Cursor::new();
@@ -47,7 +47,7 @@ fn dstc_bytes(content: &[u8]) -> [u8; 16]
 
 // A frame's DSTC chunk. The CRC is worked out only if a byte of the chunk is wanted.
 fn dstc(out: &mut [u8], w: Window, content: &[u8]) -> Window
-    ensures { Wrote (chunk (ascii "DSTC") (be 4 (crcOf content.now))) w out.old out.new result }
+    ensures { Wrote (chunk (ascii "DSTC") (be 4 (crc_of content.now))) w out.old out.new result }
 {
     let skip = w.skip;
     if (room(out.len(), w.at) == 0) | (16 <= skip) {
@@ -59,7 +59,7 @@ fn dstc(out: &mut [u8], w: Window, content: &[u8]) -> Window
 
 // A frame's unit.
 fn unit(out: &mut [u8], w: Window, crc: bool, frame: &[u8], content: &[u8]) -> Window
-    ensures { Wrote (unitBytes crc (record { code = frame.now; content = content.now })) w out.old out.new result }
+    ensures { Wrote (unit_bytes crc (record { code = frame.now; content = content.now })) w out.old out.new result }
 {
     let w1 = dstf(out, w, frame);
     if crc {
@@ -80,7 +80,7 @@ fn units(
 ) -> Window
     requires lengths_value { sum lengths.now ≡ length frames.now }
     requires lengths_value_2 { n * length lengths.now ≡ length contents.now }
-    ensures { Wrote (sound crc (lentFrames n lengths.now frames.now contents.now)) w out.old out.new result }
+    ensures { Wrote (sound crc (lent_frames n lengths.now frames.now contents.now)) w out.old out.new result }
 {
     let mut v = w;
     let mut k = 0;
@@ -100,7 +100,7 @@ fn units(
 // The positions that a read of so many bytes from a place of the sound on needs: the first whose unit it touches and one past the last, 0
 // and 0 for none.
 pub fn positions(crc: bool, lengths: &[u32], from: u64, count: u64) -> Positions
-    ensures { result ≡ positionsFor (sizes crc lengths.now) from count }
+    ensures { result ≡ positions_for (sizes crc lengths.now) from count }
 {
     let place = locate(crc, lengths, from);
     touched(crc, lengths, place, count)
@@ -119,9 +119,9 @@ pub fn fill(
     contents: &[u8],
 ) -> Fill
     ensures { Filling
-        (isLent (plainBytes crc channels) (between (needed_at (sizes crc lengths.now) w out.old) lengths.now)
+        (is_lent (plain_bytes crc channels) (between (needed_at (sizes crc lengths.now) w out.old) lengths.now)
         lent.now frames.now contents.now)
-        (sound crc (framesWith (plainBytes crc channels) (needed_at (sizes crc lengths.now) w out.old) lengths.now
+        (sound crc (frames_with (plain_bytes crc channels) (needed_at (sizes crc lengths.now) w out.old) lengths.now
         frames.now contents.now))
         w out.old out.new result }
 {

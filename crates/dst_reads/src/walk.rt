@@ -4,7 +4,7 @@ ghost use Rattle.dst.specs.Unit.{sizes};
 ghost use Rattle.dst.specs.Start.{start};
 ghost use Rattle.sound_reads.specs.Place.{place_of};
 ghost use Rattle.sound_reads.specs.Steps.{byte_at, Inside};
-ghost use Rattle.sound_reads.specs.Positions.{positionsFor};
+ghost use Rattle.sound_reads.specs.Positions.{positions_for};
 
 use dst::unit::unit_size;
 use sound_reads::place::{Place, Positions};
@@ -102,7 +102,7 @@ pub fn locate(crc: bool, lengths: &[u32], place: u64) -> Place
 // The positions whose units so many bytes from a place on touch.
 pub(crate) fn touched(crc: bool, lengths: &[u32], place: Place, count: u64) -> Positions
     requires { Inside (sizes crc lengths.now) place }
-    ensures { result ≡ positionsFor (sizes crc lengths.now) (byte_at (sizes crc lengths.now) place) count }
+    ensures { result ≡ positions_for (sizes crc lengths.now) (byte_at (sizes crc lengths.now) place) count }
 {
     let first = place.position;
     if (count == 0) | (lengths.len() <= first) {

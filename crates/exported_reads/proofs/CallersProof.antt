@@ -14,75 +14,75 @@ use Rattle.refusal.specs.declared.verdict.Verdict.{Verdict}
 use Rattle.refusal.specs.declared.verdict.Verdict.TheVariants as verdict
 use Rattle.refusal.specs.Verdict.{or_else}
 use Rattle.build_options.specs.Inputs.{Inputs}
-use Rattle.words.specs.Border.{wordsFault}
+use Rattle.words.specs.Border.{words_fault}
 use Rattle.build_answer.specs.declared.answer.Answer.{Answer}
 use Rattle.build_answer.specs.declared.answer.Answer.TheVariants.{Built, Refused}
-use Rattle.build_answer.specs.Answer.{buildNumber, buildValues}
-use Rattle.assemble.specs.Build.{buildVerdict, Outcome}
+use Rattle.build_answer.specs.Answer.{build_number, build_values}
+use Rattle.assemble.specs.Build.{build_verdict, Outcome}
 use Rattle.read_answer.specs.declared.answer.ReadAnswer.{ReadAnswer}
 use Rattle.read_answer.specs.declared.answer.ReadAnswer.TheVariants as answer
-use Rattle.read_answer.specs.Answer.{readNumber, readValue}
+use Rattle.read_answer.specs.Answer.{read_number, read_value}
 use Rattle.file_read.specs.Read.{Request, Reads}
 use Rattle.old_readers.specs.Premises.{AcceptedBuild, WasGiven, IfAccepted, AllGiven, read_by, read_of, reads_of}
 use Rattle.old_readers.proofs.OldReadersProof.{every-list-of-reads}
-use Rattle.exported_reads.specs.Callers.{ExportedBuild, inputsBy, Accepts, buildOf, EveryExportedBuild, ExportedRead, call_of, exportedRead, AllGivenBy, EveryListOfExportedReads}
-use Rattle.exported_reads.proofs.NumberLaws.{exported-numbered, refused-build, refused-read}
+use Rattle.exported_reads.specs.Callers.{ExportedBuild, inputs_by, Accepts, build_of, EveryExportedBuild, ExportedRead, call_of, exported_read, AllGivenBy, EveryListOfExportedReads}
+use Rattle.exported_reads.proofs.NumberLaws.{exported_numbered, refused-build, refused-read}
 
 -- an accepted build
 module _ (e : ExportedBuild) where
   abbrev x : Inputs
-  x = inputsBy e
+  x = inputs_by e
 
   abbrev Leaves : Verdict → Answer → Type 0
-  Leaves v r = Outcome x v e.headerBefore e.headerBuffer e.trailerBefore e.trailerBuffer r
+  Leaves v r = Outcome x v e.header_before e.header_buffer e.trailer_before e.trailer_buffer r
 
   -- under the words' fault f
-  by-fault : (f v : Verdict) → wordsFault e.words ≡ f → (header sound trailer : ℕ) → buildVerdict x e.headerBefore e.trailerBefore ≡ v
-      → Leaves (or_else f v) (Built header sound trailer) → e.values ≡ overlay e.valuesBefore 0 (header ∷ sound ∷ trailer ∷ []) → Accepts e
+  by-fault : (f v : Verdict) → words_fault e.words ≡ f → (header sound trailer : ℕ) → build_verdict x e.header_before e.trailer_before ≡ v
+      → Leaves (or_else f v) (Built header sound trailer) → e.values ≡ overlay e.values_before 0 (header ∷ sound ∷ trailer ∷ []) → Accepts e
   by-fault verdict.Accepted v border header sound trailer is o told =
       record { border = border; header = header; sound = sound; trailer = trailer; promise = rw is o; told = told }
   by-fault (verdict.Refused n d) v border header sound trailer is o told =
       let a = o.answers in let z : ◌≡◌ {A = ℕ} 0 1 = cc in absurd (omega arith)
 
-  by_answer : (r : Answer) → Leaves (or_else (wordsFault e.words) (buildVerdict x e.headerBefore e.trailerBefore)) r → 0 ≡ buildNumber r
-      → e.values ≡ overlay e.valuesBefore 0 (buildValues r) → Accepts e
+  by_answer : (r : Answer) → Leaves (or_else (words_fault e.words) (build_verdict x e.header_before e.trailer_before)) r → 0 ≡ build_number r
+      → e.values ≡ overlay e.values_before 0 (build_values r) → Accepts e
   by_answer (Built header sound trailer) promise zero told =
-      by-fault (wordsFault e.words) (buildVerdict x e.headerBefore e.trailerBefore) refl header sound trailer refl promise told
+      by-fault (words_fault e.words) (build_verdict x e.header_before e.trailer_before) refl header sound trailer refl promise told
   by_answer (Refused n d) promise zero told =
       let stays =
-      refused-build x e.headerBefore e.headerBuffer e.trailerBefore e.trailerBuffer _ (exported-numbered e.words x e.headerBefore e.trailerBefore) n d promise in
+      refused-build x e.header_before e.header_buffer e.trailer_before e.trailer_buffer _ (exported_numbered e.words x e.header_before e.trailer_before) n d promise in
       absurd (omega (arith, stays.least))
 
 pub every-exported-build : EveryExportedBuild
 every-exported-build e zero = by_answer e e.promise.answer e.promise.promise (sym zero ∙ e.promise.number) e.promise.values
 
 -- what a call adds to what is gathered, by its number and value
-read-by : (q : Request) (out last : List ℕ) (r : ReadAnswer) → Reads q out last r → (n : ℕ) → n ≡ readNumber r → (value : List ℕ) → value ≡ readValue r ∷ []
+read-by : (q : Request) (out last : List ℕ) (r : ReadAnswer) → Reads q out last r → (n : ℕ) → n ≡ read_number r → (value : List ℕ) → value ≡ read_value r ∷ []
     → read_by q.offset out last r ≡ cond (eqb n 0) (accepted q.offset (length out) (take (get_or value 0 0) last)) refused
 read-by q out last (answer.Filled count) promise n e value f = rw (e, f)
 read-by q out last (answer.Refused number detail) promise n e value f = rw (e, ne_eqb number 0 (λ z. omega (arith, (refused-read q out last number detail promise).least)))
 
-read_is : (c : ExportedRead) → read_of (call_of c) ≡ exportedRead c
+read_is : (c : ExportedRead) → read_of (call_of c) ≡ exported_read c
 read_is c =
     read-by c.request c.out c.last c.promise.answer c.promise.promise c.number c.promise.number c.value c.promise.only
 
-reads-are : (cs : List ExportedRead) → reads_of (map call_of cs) ≡ map exportedRead cs
+reads-are : (cs : List ExportedRead) → reads_of (map call_of cs) ≡ map exported_read cs
 reads-are [] = refl
 reads-are (c ∷ cs) = ap₂ (λ (r : Read) (rs : List Read). r ∷ rs) (read_is c) (reads-are cs)
 
 -- what the accepted ones were given
 module _ (b : AcceptedBuild) (fs : List Frame) where
-  if-accepted : (q : Request) (room : ℕ) (r : ReadAnswer) (n : ℕ) → n ≡ readNumber r → (n ≡ 0 → WasGiven b fs q room) → IfAccepted b fs q room r
+  if-accepted : (q : Request) (room : ℕ) (r : ReadAnswer) (n : ℕ) → n ≡ read_number r → (n ≡ 0 → WasGiven b fs q room) → IfAccepted b fs q room r
   if-accepted q room (answer.Filled count) n e given = given e
   if-accepted q room (answer.Refused number detail) n e given = tt
 
-  all-given : (cs : List ExportedRead) → AllGivenBy b fs cs → AllGiven b fs (map call_of cs)
-  all-given [] given = tt
-  all-given (c ∷ cs) given =
-      (if-accepted c.request (length c.out) c.promise.answer c.number c.promise.number given.0, all-given cs given.1)
+  all_given : (cs : List ExportedRead) → AllGivenBy b fs cs → AllGiven b fs (map call_of cs)
+  all_given [] given = tt
+  all_given (c ∷ cs) given =
+      (if-accepted c.request (length c.out) c.promise.answer c.number c.promise.number given.0, all_given cs given.1)
 
 pub every-list-of-exported-reads : EveryListOfExportedReads
 every-list-of-exported-reads e a fs recorded cs given = record {
   reads = reads-are cs;
-  holds = every-list-of-reads (buildOf e a) fs recorded (map call_of cs) (all-given (buildOf e a) fs cs given);
+  holds = every-list-of-reads (build_of e a) fs recorded (map call_of cs) (all_given (build_of e a) fs cs given);
 }

@@ -8,33 +8,33 @@ use Rattle.refusal.specs.declared.verdict.Verdict.{Verdict}
 use Rattle.refusal.specs.declared.verdict.Verdict.TheVariants as verdict
 use Rattle.build_answer.specs.declared.answer.Answer.{Answer}
 use Rattle.build_answer.specs.declared.answer.Answer.TheVariants.{Built, Refused}
-use Rattle.build_answer.specs.Answer.{buildNumber, buildValues}
+use Rattle.build_answer.specs.Answer.{build_number, build_values}
 use Rattle.sound_reads.specs.declared.place.Positions.{Positions}
 use Rattle.word_builds.specs.Build.{BuildsUnless}
-use Rattle.words.specs.Border.{wordsFault}
+use Rattle.words.specs.Border.{words_fault}
 use Rattle.read_rules.specs.declared.format.SoundFormat.{SoundFormat}
-use Rattle.read_rules.specs.Fault.{formatFault}
+use Rattle.read_rules.specs.Fault.{format_fault}
 use Rattle.read_rules.specs.Needed.{needed}
 use Rattle.read_answer.specs.declared.answer.ReadAnswer.{ReadAnswer}
 use Rattle.read_answer.specs.declared.answer.ReadAnswer.TheVariants as answer
-use Rattle.read_answer.specs.Answer.{queryNumber, queryAnswer, readNumber, readValue}
+use Rattle.read_answer.specs.Answer.{query_number, query_answer, read_number, read_value}
 use Rattle.file_read.specs.Read.{Reads}
-use Rattle.file_query.specs.Query.{queryOf}
+use Rattle.file_query.specs.Query.{query_of}
 use Rattle.abi.specs.Reads.{Queried}
 use Rattle.refusal_numbers.specs.Numbers.{Within}
 use Rattle.refusal_numbers.proofs.NumbersProof.{numbered}
-use Rattle.exported_reads.specs.Callers.{ExportedBuild, inputsBy, ExportedRead}
+use Rattle.exported_reads.specs.Callers.{ExportedBuild, inputs_by, ExportedRead}
 use Rattle.exported_reads.specs.Refusals.{RefusedBuild, RefusedRead, EveryExportedRefusal}
-use Rattle.exported_reads.proofs.NumberLaws.{exported-numbered, refused-build, refused-read}
+use Rattle.exported_reads.proofs.NumberLaws.{exported_numbered, refused-build, refused-read}
 
 module _ (e : ExportedBuild) where
-  by_answer : (r : Answer) → BuildsUnless (wordsFault e.words) (inputsBy e) e.headerBefore e.headerBuffer e.trailerBefore e.trailerBuffer r
-      → e.number ≡ buildNumber r → e.values ≡ overlay e.valuesBefore 0 (buildValues r) → ¬ (e.number ≡ 0) → RefusedBuild e
+  by_answer : (r : Answer) → BuildsUnless (words_fault e.words) (inputs_by e) e.header_before e.header_buffer e.trailer_before e.trailer_buffer r
+      → e.number ≡ build_number r → e.values ≡ overlay e.values_before 0 (build_values r) → ¬ (e.number ≡ 0) → RefusedBuild e
   by_answer (Built header sound trailer) promise number told refused = absurd (refused number)
   by_answer (Refused n d) promise number told refused =
       let stays =
-      refused-build (inputsBy e) e.headerBefore e.headerBuffer e.trailerBefore e.trailerBuffer _
-      (exported-numbered e.words (inputsBy e) e.headerBefore e.trailerBefore) n d promise in
+      refused-build (inputs_by e) e.header_before e.header_buffer e.trailer_before e.trailer_buffer _
+      (exported_numbered e.words (inputs_by e) e.header_before e.trailer_before) n d promise in
       record {
         least = rw number stays.least;
         most = rw number stays.most;
@@ -48,18 +48,18 @@ module _ (e : ExportedBuild) where
   build : ¬ (e.number ≡ 0) → RefusedBuild e
   build refused = by_answer e.promise.answer e.promise.promise e.promise.number e.promise.values refused
 
-query-by : (v : Verdict) → Within 42 42 v → (p : Positions) (n : ℕ) → n ≡ queryNumber (queryAnswer v p) → ¬ (n ≡ 0) → n ≡ 42
+query-by : (v : Verdict) → Within 42 42 v → (p : Positions) (n : ℕ) → n ≡ query_number (query_answer v p) → ¬ (n ≡ 0) → n ≡ 42
 query-by verdict.Accepted within p n number refused = absurd (refused number)
 query-by (verdict.Refused m k) within p n number refused = omega (arith, number, within.least m k refl, within.most m k refl)
 
 query : (f : SoundFormat) (lengths : List ℕ) (header trailer offset room : ℕ) (values : List ℕ) (n : ℕ)
-    → Queried (queryOf f lengths header trailer offset room) values n → ¬ (n ≡ 0) → n ≡ 42
-unfolding queryOf
+    → Queried (query_of f lengths header trailer offset room) values n → ¬ (n ≡ 0) → n ≡ 42
+unfolding query_of
 query f lengths header trailer offset room values n queried refused =
-    query-by (formatFault f lengths header trailer) (numbered.query f lengths header trailer) (needed f lengths header offset room) n queried.number refused
+    query-by (format_fault f lengths header trailer) (numbered.query f lengths header trailer) (needed f lengths header offset room) n queried.number refused
 
 module _ (c : ExportedRead) where
-  read-by : (r : ReadAnswer) → Reads c.request c.out c.last r → c.number ≡ readNumber r → c.value ≡ readValue r ∷ [] → ¬ (c.number ≡ 0) → RefusedRead c
+  read-by : (r : ReadAnswer) → Reads c.request c.out c.last r → c.number ≡ read_number r → c.value ≡ read_value r ∷ [] → ¬ (c.number ≡ 0) → RefusedRead c
   read-by (answer.Filled count) promise number value refused = absurd (refused number)
   read-by (answer.Refused n d) promise number value refused =
       let unread = refused-read c.request c.out c.last n d promise in

@@ -6,8 +6,8 @@ use Rattle.tree.specs.Gather.{Read, refused, accepted}
 use Rattle.dst.specs.Frame.{Frame}
 use Rattle.refusal.specs.declared.verdict.Verdict.TheVariants.{Accepted}
 use Rattle.build_options.specs.Inputs.{Inputs}
-use Rattle.words.specs.Inputs.{inputsOfWords}
-use Rattle.words.specs.Border.{wordsFault}
+use Rattle.words.specs.Inputs.{inputs_of_words}
+use Rattle.words.specs.Border.{words_fault}
 use Rattle.build_answer.specs.declared.answer.Answer.TheVariants.{Built}
 use Rattle.assemble.specs.Build.{Builds}
 use Rattle.file_read.specs.Read.{Request}
@@ -26,39 +26,39 @@ pub record ExportedBuild : Type 0 where
   pub comments : List ℕ
   pub callers : List ℕ
   pub lengths : List ℕ
-  pub headerBefore : List ℕ
-  pub headerBuffer : List ℕ
-  pub trailerBefore : List ℕ
-  pub trailerBuffer : List ℕ
-  pub valuesBefore : List ℕ
+  pub header_before : List ℕ
+  pub header_buffer : List ℕ
+  pub trailer_before : List ℕ
+  pub trailer_buffer : List ℕ
+  pub values_before : List ℕ
   pub values : List ℕ
   pub number : ℕ
-  pub promise : Exported (wordsFault words) (inputsOfWords words pool raw tracks markers comments callers lengths)
-      headerBefore headerBuffer trailerBefore trailerBuffer valuesBefore values number
+  pub promise : Exported (words_fault words) (inputs_of_words words pool raw tracks markers comments callers lengths)
+      header_before header_buffer trailer_before trailer_buffer values_before values number
 
 -- the inputs that its words mean
-abbrev pub inputsBy : ExportedBuild → Inputs
-inputsBy e = inputsOfWords e.words e.pool e.raw e.tracks e.markers e.comments e.callers e.lengths
+abbrev pub inputs_by : ExportedBuild → Inputs
+inputs_by e = inputs_of_words e.words e.pool e.raw e.tracks e.markers e.comments e.callers e.lengths
 
 -- its words have no fault, it was accepted, and the lengths of header, sound and trailer are in the values, as many as they had room for
 pub record Accepts (e : ExportedBuild) : Type 0 where
-  pub border : wordsFault e.words ≡ Accepted
+  pub border : words_fault e.words ≡ Accepted
   pub header : ℕ
   pub sound : ℕ
   pub trailer : ℕ
-  pub promise : Builds (inputsBy e) e.headerBefore e.headerBuffer e.trailerBefore e.trailerBuffer (Built header sound trailer)
-  pub told : e.values ≡ overlay e.valuesBefore 0 (header ∷ sound ∷ trailer ∷ [])
+  pub promise : Builds (inputs_by e) e.header_before e.header_buffer e.trailer_before e.trailer_buffer (Built header sound trailer)
+  pub told : e.values ≡ overlay e.values_before 0 (header ∷ sound ∷ trailer ∷ [])
 
-abbrev pub buildOf : (e : ExportedBuild) → Accepts e → AcceptedBuild
-buildOf e a = record {
-  inputs = inputsBy e;
-  headerBefore = e.headerBefore;
-  headerBuffer = e.headerBuffer;
-  trailerBefore = e.trailerBefore;
-  trailerBuffer = e.trailerBuffer;
-  headerLength = a.header;
-  soundLength = a.sound;
-  trailerLength = a.trailer;
+abbrev pub build_of : (e : ExportedBuild) → Accepts e → AcceptedBuild
+build_of e a = record {
+  inputs = inputs_by e;
+  header_before = e.header_before;
+  header_buffer = e.header_buffer;
+  trailer_before = e.trailer_before;
+  trailer_buffer = e.trailer_buffer;
+  header_length = a.header;
+  sound_length = a.sound;
+  trailer_length = a.trailer;
   promise = a.promise;
 }
 
@@ -79,8 +79,8 @@ abbrev pub call_of : ExportedRead → Call
 call_of c = record { request = c.request; out = c.out; last = c.last; answer = c.promise.answer; promise = c.promise.promise }
 
 -- what it adds to what is gathered: if it answered 0, as many bytes as it says, at its offset; else nothing
-abbrev pub exportedRead : ExportedRead → Read
-exportedRead c = cond (eqb c.number 0) (accepted c.request.offset (length c.out) (take (get_or c.value 0 0) c.last)) refused
+abbrev pub exported_read : ExportedRead → Read
+exported_read c = cond (eqb c.number 0) (accepted c.request.offset (length c.out) (take (get_or c.value 0 0) c.last)) refused
 
 -- each that answered 0 was given what the build was given and made, and lent the needed frames
 abbrev pub AllGivenBy : AcceptedBuild → List Frame → List ExportedRead → Type 0
@@ -89,10 +89,10 @@ AllGivenBy b fs (c ∷ cs) = (c.number ≡ 0 → WasGiven b fs c.request (length
 
 -- what they gather is by their numbers and values, and demand 3 holds of it
 pub record ExportedReads (b : AcceptedBuild) (fs : List Frame) (cs : List ExportedRead) : Type 0 where
-  pub reads : reads_of (map call_of cs) ≡ map exportedRead cs
+  pub reads : reads_of (map call_of cs) ≡ map exported_read cs
   pub holds : OldReaders b fs (map call_of cs)
 
 -- THE STATEMENT of reads
 abbrev pub EveryListOfExportedReads : Type 0
-EveryListOfExportedReads = (e : ExportedBuild) (a : Accepts e) (fs : List Frame) → Recorded (inputsBy e) fs → (cs : List ExportedRead) → AllGivenBy (buildOf e a) fs cs
-    → ExportedReads (buildOf e a) fs cs
+EveryListOfExportedReads = (e : ExportedBuild) (a : Accepts e) (fs : List Frame) → Recorded (inputs_by e) fs → (cs : List ExportedRead) → AllGivenBy (build_of e a) fs cs
+    → ExportedReads (build_of e a) fs cs

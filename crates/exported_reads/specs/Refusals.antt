@@ -4,30 +4,30 @@ use Rattle.std.specs.Prelude.{◌≡◌, List, [], ◌∷◌, ℕ, ◌≤◌, le
 use Rattle.chunk.specs.Append.{overlay}
 use Rattle.refusal.specs.Verdict.{or_else}
 use Rattle.refusal.specs.declared.verdict.Verdict.TheVariants.{Refused}
-use Rattle.words.specs.Border.{wordsFault}
-use Rattle.assemble.specs.Build.{buildVerdict}
+use Rattle.words.specs.Border.{words_fault}
+use Rattle.assemble.specs.Build.{build_verdict}
 use Rattle.read_rules.specs.declared.format.SoundFormat.{SoundFormat}
-use Rattle.file_query.specs.Query.{queryOf}
-use Rattle.file_read.specs.Read.{readVerdict}
+use Rattle.file_query.specs.Query.{query_of}
+use Rattle.file_read.specs.Read.{read_verdict}
 use Rattle.abi.specs.Reads.{Queried}
-use Rattle.exported_reads.specs.Callers.{ExportedBuild, inputsBy, ExportedRead}
+use Rattle.exported_reads.specs.Callers.{ExportedBuild, inputs_by, ExportedRead}
 
 -- a build that was refused, by a fault of its words or as 01 says, with this number and detail; the values have the detail and two zeros, as many as they had room for
 pub record RefusedBuild (e : ExportedBuild) : Type 0 where
   pub least : 1 ≤ e.number
   pub most : e.number ≤ 41
   pub detail : ℕ
-  pub refused : or_else (wordsFault e.words) (buildVerdict (inputsBy e) e.headerBefore e.trailerBefore) ≡ Refused e.number detail
-  pub told : e.values ≡ overlay e.valuesBefore 0 (detail ∷ 0 ∷ 0 ∷ [])
-  pub header : e.headerBuffer ≡ e.headerBefore
-  pub trailer : e.trailerBuffer ≡ e.trailerBefore
+  pub refused : or_else (words_fault e.words) (build_verdict (inputs_by e) e.header_before e.trailer_before) ≡ Refused e.number detail
+  pub told : e.values ≡ overlay e.values_before 0 (detail ∷ 0 ∷ 0 ∷ [])
+  pub header : e.header_buffer ≡ e.header_before
+  pub trailer : e.trailer_buffer ≡ e.trailer_before
 
 -- a read that was refused
 pub record RefusedRead (c : ExportedRead) : Type 0 where
   pub least : 42 ≤ c.number
   pub most : c.number ≤ 43
   pub detail : ℕ
-  pub refused : readVerdict c.request (length c.out) ≡ Refused c.number detail
+  pub refused : read_verdict c.request (length c.out) ≡ Refused c.number detail
   pub told : c.value ≡ detail ∷ []
   pub buffer : c.last ≡ c.out
 
@@ -35,5 +35,5 @@ pub record RefusedRead (c : ExportedRead) : Type 0 where
 pub record EveryExportedRefusal : Type 0 where
   pub build : (e : ExportedBuild) → ¬ (e.number ≡ 0) → RefusedBuild e
   pub query : (f : SoundFormat) (lengths : List ℕ) (header trailer offset room : ℕ) (values : List ℕ) (number : ℕ)
-      → Queried (queryOf f lengths header trailer offset room) values number → ¬ (number ≡ 0) → number ≡ 42
+      → Queried (query_of f lengths header trailer offset room) values number → ¬ (number ≡ 0) → number ≡ 42
   pub read : (c : ExportedRead) → ¬ (c.number ≡ 0) → RefusedRead c

@@ -4,5 +4,5 @@ use Rattle.texts.specs.Text.{passes}
 use Rattle.texts.specs.declared.text.TextRule.{TextRule}
 use Rattle.refusal.specs.Below.{any}
 
-unfoldable pub hasNoText : TextRule → List ℕ → Bool
-hasNoText rule bytes = any (λ i. not (passes rule (get_or bytes i 0))) (length bytes)
+unfoldable pub has_no_text : TextRule → List ℕ → Bool
+has_no_text rule bytes = any (λ i. not (passes rule (get_or bytes i 0))) (length bytes)

@@ -1,7 +1,7 @@
 // 4 and 5: the names of caller chunks.
 ghost use Rattle.std.specs.Prelude.{◌≡◌};
 ghost use Rattle.chunk.specs.Number.{be};
-ghost use Rattle.faults.specs.Caller.{spaceThenMore, isNoName, nameFault, callerFaults};
+ghost use Rattle.faults.specs.Caller.{space_then_more, is_no_name, name_fault, caller_faults};
 
 use refusal::verdict::{Verdict, refuse_if};
 use rows::row::Row;
@@ -22,14 +22,14 @@ pub fn name_of(word: u32) -> [u8; 4]
 }
 
 fn space_then_more(a: u8, b: u8) -> bool
-    ensures { result ≡ spaceThenMore a b }
+    ensures { result ≡ space_then_more a b }
 {
     (a == SPACE) & (b != SPACE)
 }
 
 // Whether four bytes are no name: a byte is no text byte, or a space stands before another byte.
 fn is_no_name(name: [u8; 4]) -> bool
-    ensures { result ≡ isNoName name }
+    ensures { result ≡ is_no_name name }
 {
     let text = printable(name[0] as u32)
         & (printable(name[1] as u32) & (printable(name[2] as u32) & printable(name[3] as u32)));
@@ -40,7 +40,7 @@ fn is_no_name(name: [u8; 4]) -> bool
 
 // 4 and 5 of one name.
 fn name_fault(name: [u8; 4]) -> Verdict
-    ensures { result ≡ nameFault name }
+    ensures { result ≡ name_fault name }
 {
     let v4 = refuse_if(is_no_name(name), 4, 0);
     let v5 = refuse_if(chunk_names::is_reserved(name), 5, 0);
@@ -49,7 +49,7 @@ fn name_fault(name: [u8; 4]) -> Verdict
 
 // The first caller chunk at fault.
 pub fn caller_faults(callers: &[u32]) -> Verdict
-    ensures { result ≡ callerFaults callers.now }
+    ensures { result ≡ caller_faults callers.now }
 {
     let kind = Row::Caller;
     let n = kind.count(callers);

@@ -1,6 +1,6 @@
 // 32 and 33: markers that are given.
 ghost use Rattle.std.specs.Prelude.{◌≡◌, ◌<◌, ◌/◌, length};
-ghost use Rattle.faults.specs.Marks.{isNoKind, kindIn, markerFault, markerFaults};
+ghost use Rattle.faults.specs.Marks.{is_no_kind, kind_in, marker_fault, marker_faults};
 
 use refusal::verdict::{Verdict, refuse_if};
 use rows::row::Row;
@@ -8,7 +8,7 @@ use texts::text::TextRule;
 
 // Whether a row's second word, kind · 65,536 + flags, has a kind that no marker has.
 fn no_kind(word: u32) -> bool
-    ensures { result ≡ isNoKind (kindIn word) }
+    ensures { result ≡ is_no_kind (kind_in word) }
 {
     let kind = word / 0x1_0000;
     (kind != 0) & ((kind != 1) & ((kind != 2) & (kind != 4)))
@@ -24,7 +24,7 @@ fn marker_fault(
     end: u32,
 ) -> Verdict
     requires { k < length markers.now / 4 }
-    ensures { result ≡ markerFault markers.now raw.now rule first end k }
+    ensures { result ≡ marker_fault markers.now raw.now rule first end k }
 {
     let frame = rows::row::word(markers, 4, k, 0);
     let kind = rows::row::word(markers, 4, k, 1);
@@ -36,7 +36,7 @@ fn marker_fault(
 
 // The first marker at fault.
 pub fn marker_faults(markers: &[u32], raw: &[u8], rule: TextRule, first: u32, end: u32) -> Verdict
-    ensures { result ≡ markerFaults markers.now raw.now rule first end }
+    ensures { result ≡ marker_faults markers.now raw.now rule first end }
 {
     let kind = Row::Marker;
     let n = kind.count(markers);

@@ -1,14 +1,14 @@
 // Bytes that a text of the file can't have (31, 33).
 ghost use Rattle.std.specs.Prelude.{◌≡◌};
 ghost use Rattle.texts.specs.Extent.{part};
-ghost use Rattle.faults.specs.TextBytes.{hasNoText};
+ghost use Rattle.faults.specs.TextBytes.{has_no_text};
 
 use texts::extent::Extent;
 use texts::text::TextRule;
 
 // Whether one of the bytes does not pass as itself.
 fn has_no_text(rule: TextRule, bytes: &[u8]) -> bool
-    ensures { result ≡ hasNoText rule bytes.now }
+    ensures { result ≡ has_no_text rule bytes.now }
 {
     let mut found = false;
     let mut i = 0;
@@ -21,7 +21,7 @@ fn has_no_text(rule: TextRule, bytes: &[u8]) -> bool
 
 // The same of a part of the byte pool.
 pub fn part_has_no_text(rule: TextRule, raw: &[u8], e: Extent) -> bool
-    ensures { result ≡ hasNoText rule (part raw.now e) }
+    ensures { result ≡ has_no_text rule (part raw.now e) }
 {
     let first = e.first(raw.len());
     let end = e.end(raw.len());

@@ -5,11 +5,11 @@ ghost use Rattle.tree.specs.Tree.{bytes};
 ghost use Rattle.dst_index.specs.Index.{shift_of, dsti};
 ghost use Rattle.prop.specs.Property.{property};
 ghost use Rattle.master_info.specs.Diin.{diin};
-ghost use Rattle.build_options.specs.Options.{effective, infoOf};
-ghost use Rattle.build_options.specs.Area.{isDst};
-ghost use Rattle.file_tree.specs.Parts.{parts_of, propertiesOf};
-ghost use Rattle.file_tree.specs.Sides.{isSound, givenNames, localBytes, localsBytes};
-ghost use Rattle.file_tree.specs.Steps.{onSide, side};
+ghost use Rattle.build_options.specs.Options.{effective, info_of};
+ghost use Rattle.build_options.specs.Area.{is_dst};
+ghost use Rattle.file_tree.specs.Parts.{parts_of, properties_of};
+ghost use Rattle.file_tree.specs.Sides.{is_sound, given_names, local_bytes, locals_bytes};
+ghost use Rattle.file_tree.specs.Steps.{on_side, side};
 
 use build_options::area::Area;
 use build_options::options::{Options, Settings};
@@ -20,7 +20,7 @@ use prop_fields::compression::Sound;
 
 // What PROP tells.
 fn properties_of(area: Area, o: Options, s: Settings) -> Properties
-    ensures { result ≡ propertiesOf area o s }
+    ensures { result ≡ properties_of area o s }
 {
     let sound = area.sound;
     let layout = area.layout;
@@ -45,7 +45,7 @@ fn property_chunk(
     options: Options,
     order: [PropertyChunk; 5],
 ) -> Cursor
-    ensures { Appended out.old c.at (bytes (property order (propertiesOf area options (effective options)))) out.new result.at }
+    ensures { Appended out.old c.at (bytes (property order (properties_of area options (effective options)))) out.new result.at }
 {
     let s = build_options::options::effective(options);
     let p = properties_of(area, options, s);
@@ -62,7 +62,7 @@ fn index_chunk(
     lengths: &[u32],
 ) -> Cursor
     ensures { Appended out.old c.at
-        (cond (isDst area.sound && options.dst_index) (dsti options.dst_crc (moved base (shift_of options.dst_index_offset)) lengths.now) [])
+        (cond (is_dst area.sound && options.dst_index) (dsti options.dst_crc (moved base (shift_of options.dst_index_offset)) lengths.now) [])
         out.new result.at }
 {
     let sound = area.sound;
@@ -92,7 +92,7 @@ fn info_chunk(
     markers: &[u32],
 ) -> Cursor
     ensures { Appended out.old c.at
-        (bytes (diin pool.now raw.now tracks.now markers.now (infoOf area options (effective options)) order))
+        (bytes (diin pool.now raw.now tracks.now markers.now (info_of area options (effective options)) order))
         out.new result.at }
 {
     let s = build_options::options::effective(options);
@@ -118,7 +118,7 @@ fn local_chunk(
     lengths: &[u32],
 ) -> Cursor
     ensures { Appended out.old c.at
-        (localBytes (parts_of area options property_order info_order pool.now raw.now tracks.now markers.now comments.now lengths.now) base name)
+        (local_bytes (parts_of area options property_order info_order pool.now raw.now tracks.now markers.now comments.now lengths.now) base name)
         out.new result.at }
 {
     match name {
@@ -144,7 +144,7 @@ fn local_chunk(
 }
 
 fn is_sound(name: LocalChunk) -> bool
-    ensures { result ≡ isSound name }
+    ensures { result ≡ is_sound name }
 {
     match name {
         LocalChunk::Property => {
@@ -167,7 +167,7 @@ fn is_sound(name: LocalChunk) -> bool
 
 // Whether a name is on the side of the sound that is asked for: the sound was passed before it, or comes after it.
 fn on_side(behind: bool, passed: bool, sound: bool) -> bool
-    ensures { result ≡ onSide behind passed sound }
+    ensures { result ≡ on_side behind passed sound }
 {
     if behind {
         return passed;
@@ -195,7 +195,7 @@ pub(crate) fn local_chunks(
     lengths: &[u32],
 ) -> Cursor
     ensures { Appended out.old c.at
-        (localsBytes (parts_of area options property_order info_order pool.now raw.now tracks.now markers.now comments.now lengths.now) base (side behind (givenNames order count)))
+        (locals_bytes (parts_of area options property_order info_order pool.now raw.now tracks.now markers.now comments.now lengths.now) base (side behind (given_names order count)))
         out.new result.at }
 {
     let mut c = c;

@@ -1,8 +1,8 @@
 // FRM8's data up to the first sound byte, and what follows the sound.
 ghost use Rattle.chunk.specs.Append.{Appended};
 ghost use Rattle.file_tree.specs.Parts.{parts_of};
-ghost use Rattle.file_tree.specs.Sides.{givenNames, back};
-ghost use Rattle.file_tree.specs.Sized.{frontSized};
+ghost use Rattle.file_tree.specs.Sides.{given_names, back};
+ghost use Rattle.file_tree.specs.Sized.{front_sized};
 
 use build_options::area::Area;
 use build_options::options::Options;
@@ -33,7 +33,7 @@ pub fn front_sized(
     lengths: &[u32],
 ) -> Cursor
     ensures { Appended out.old c.at
-        (frontSized (parts_of area options property_order info_order pool.now raw.now tracks.now markers.now comments.now lengths.now) size base (givenNames local_order local_count))
+        (front_sized (parts_of area options property_order info_order pool.now raw.now tracks.now markers.now comments.now lengths.now) size base (given_names local_order local_count))
         out.new result.at }
 {
     let version = VERSION;
@@ -81,7 +81,7 @@ pub fn back(
     lengths: &[u32],
 ) -> Cursor
     ensures { Appended out.old c.at
-        (back (parts_of area options property_order info_order pool.now raw.now tracks.now markers.now comments.now lengths.now) base (givenNames local_order local_count) callers.now)
+        (back (parts_of area options property_order info_order pool.now raw.now tracks.now markers.now comments.now lengths.now) base (given_names local_order local_count) callers.now)
         out.new result.at }
 {
     let end = crate::locals::local_chunks(

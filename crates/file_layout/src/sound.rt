@@ -1,10 +1,10 @@
 // The sound chunk up to the first sound byte, and the sound's length.
 ghost use Rattle.std.specs.Prelude.{◌≡◌, ◌*◌, ◌-◌, ◌^◌, min};
 ghost use Rattle.chunk.specs.Append.{Appended};
-ghost use Rattle.dst.specs.Frame.{frameBytes};
-ghost use Rattle.build_options.specs.Area.{areaPositions};
-ghost use Rattle.file_tree.specs.Sound.{soundSize};
-ghost use Rattle.file_tree.specs.Sized.{soundHeadSized};
+ghost use Rattle.dst.specs.Frame.{frame_bytes};
+ghost use Rattle.build_options.specs.Area.{area_positions};
+ghost use Rattle.file_tree.specs.Sound.{sound_size};
+ghost use Rattle.file_tree.specs.Sized.{sound_head_sized};
 
 use build_options::area::Area;
 use chunk::Cursor;
@@ -12,14 +12,14 @@ use prop_fields::compression::Sound;
 
 // The length of DSD sound: so many frames.
 fn dsd_size(area: Area) -> u64
-    ensures { result ≡ areaPositions area * frameBytes area.channels }
+    ensures { result ≡ area_positions area * frame_bytes area.channels }
 {
     area.positions() as u64 * dst::frame::frame_bytes(area.channels) as u64
 }
 
 // The sound's length, at most the largest u64.
 pub fn sound_size(area: Area, crc: bool, lengths: &[u32]) -> u64
-    ensures { result ≡ min (soundSize area.sound area crc lengths.now) (2 ^ 64 - 1) }
+    ensures { result ≡ min (sound_size area.sound area crc lengths.now) (2 ^ 64 - 1) }
 {
     let sound = area.sound;
     match sound {
@@ -34,7 +34,7 @@ pub fn sound_size(area: Area, crc: bool, lengths: &[u32]) -> u64
 
 // The sound chunk's name and size and, of DST, FRTE, of so many bytes of sound in so many frames.
 pub fn sound_head_sized(c: Cursor, out: &mut [u8], sound: Sound, size: u64, frames: usize) -> Cursor
-    ensures { Appended out.old c.at (soundHeadSized sound size frames) out.new result.at }
+    ensures { Appended out.old c.at (sound_head_sized sound size frames) out.new result.at }
 {
     match sound {
         Sound::Dsd => {

@@ -2,11 +2,11 @@
 -- (0, 0) for none"). Assumes nothing.
 use Rattle.std.specs.Prelude.{ℕ, List}
 use Rattle.read_rules.specs.declared.format.SoundFormat.{SoundFormat}
-use Rattle.read_rules.specs.Fault.{formatFault}
+use Rattle.read_rules.specs.Fault.{format_fault}
 use Rattle.read_rules.specs.Needed.{needed}
 use Rattle.read_answer.specs.declared.answer.QueryAnswer.{QueryAnswer}
-use Rattle.read_answer.specs.Answer.{queryAnswer}
+use Rattle.read_answer.specs.Answer.{query_answer}
 
 -- of a file whose header and trailer have so many bytes, for a read of `room` bytes from the file's byte `offset` on
-unfoldable pub queryOf : SoundFormat → List ℕ → ℕ → ℕ → ℕ → ℕ → QueryAnswer
-queryOf f lengths header trailer offset room = queryAnswer (formatFault f lengths header trailer) (needed f lengths header offset room)
+unfoldable pub query_of : SoundFormat → List ℕ → ℕ → ℕ → ℕ → ℕ → QueryAnswer
+query_of f lengths header trailer offset room = query_answer (format_fault f lengths header trailer) (needed f lengths header offset room)

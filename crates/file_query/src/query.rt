@@ -1,8 +1,8 @@
 // The query: which positions a read of a whole file needs.
 ghost use Rattle.std.specs.Prelude.{◌≡◌, ◌-◌};
-ghost use Rattle.sound_reads.specs.Positions.{positionsFor};
-ghost use Rattle.read_rules.specs.Format.{unitSizes};
-ghost use Rattle.file_query.specs.Query.{queryOf};
+ghost use Rattle.sound_reads.specs.Positions.{positions_for};
+ghost use Rattle.read_rules.specs.Format.{unit_sizes};
+ghost use Rattle.file_query.specs.Query.{query_of};
 
 use prop_fields::compression::Sound;
 use read_answer::answer::QueryAnswer;
@@ -22,7 +22,7 @@ fn less(a: u64, b: u64) -> u64
 
 // The positions that so many bytes from a place of the sound on touch.
 fn sound_positions(format: SoundFormat, lengths: &[u32], from: u64, count: u64) -> Positions
-    ensures { result ≡ positionsFor (unitSizes format lengths.now) from count }
+    ensures { result ≡ positions_for (unit_sizes format lengths.now) from count }
 {
     let sound = format.sound;
     match sound {
@@ -45,7 +45,7 @@ pub fn query(
     offset: u64,
     room: u64,
 ) -> QueryAnswer
-    ensures { result ≡ queryOf format lengths.now header trailer offset room }
+    ensures { result ≡ query_of format lengths.now header trailer offset room }
 {
     let verdict = format.fault(lengths, header, trailer);
     match verdict {

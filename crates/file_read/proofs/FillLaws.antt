@@ -6,7 +6,7 @@ use Prim.Native.Nat.{ℕ, ◌*◌}
 use native.Mathlib.Omega.{arith}
 use lib.Dec.{eqb}
 use lib.ListN.{length, replicate}
-use Rattle.dst.specs.Frame.{frameBytes, plainBytes, dsdSound}
+use Rattle.dst.specs.Frame.{frame_bytes, plain_bytes, dsd_sound}
 use Rattle.dst.specs.Unit.{sound, sizes}
 use Rattle.prop_fields.specs.declared.compression.Sound.TheVariants.{Dsd, Dst}
 use Rattle.window.specs.declared.window.Window.{Window}
@@ -16,10 +16,10 @@ use Rattle.sound_reads.specs.declared.lent.Fill.{Fill}
 use Rattle.sound_reads.specs.declared.lent.Fill.TheVariants.{Filled, NotLent}
 use Rattle.sound_reads.specs.Fill.{Filling}
 use Rattle.sound_reads.specs.Positions.{number, between}
-use Rattle.sound_reads.specs.Lent.{needed_at, isLent, framesWith, contentsWith}
+use Rattle.sound_reads.specs.Lent.{needed_at, is_lent, frames_with, contents_with}
 use Rattle.read_rules.specs.declared.format.SoundFormat.{SoundFormat}
-use Rattle.read_rules.specs.Format.{unitSizes}
-use Rattle.file_read.specs.Lent.{isLentFor, soundWith}
+use Rattle.read_rules.specs.Format.{unit_sizes}
+use Rattle.file_read.specs.Lent.{is_lent_for, sound_with}
 
 -- nothing was written, since what is lent is not right
 pub record Untouched (lent : Bool) (out last : List ℕ) : Type 0 where
@@ -54,16 +54,16 @@ module _ (f : SoundFormat) (lengths lent frames contents : List ℕ) (w : Window
   -- the sound of either kind, filled after what w skips of it
   abbrev pub FillsSound : List ℕ → Fill → Type 0
   FillsSound last r =
-      Filling (isLentFor f lengths (needed_at (unitSizes f lengths) w out) lent frames contents)
-      (soundWith f lengths (needed_at (unitSizes f lengths) w out) frames contents)
+      Filling (is_lent_for f lengths (needed_at (unit_sizes f lengths) w out) lent frames contents)
+      (sound_with f lengths (needed_at (unit_sizes f lengths) w out) frames contents)
       w out last r
 
   -- of DSD: the positions that are needed, and whether so much content is lent
   abbrev pub wanted : Positions
-  wanted = needed_at (replicate f.positions (frameBytes f.channels)) w out
+  wanted = needed_at (replicate f.positions (frame_bytes f.channels)) w out
 
   abbrev pub counted : Bool
-  counted = eqb (frameBytes f.channels * number wanted) (length contents)
+  counted = eqb (frame_bytes f.channels * number wanted) (length contents)
 
   -- DSD, where lengths or DST bytes are lent
   pub dsd-refused : f.sound ≡ Dsd → not (eqb (length lent) 0) || not (eqb (length frames) 0) ≡ true → FillsSound out NotLent
@@ -71,13 +71,13 @@ module _ (f : SoundFormat) (lengths lent frames contents : List ℕ) (w : Window
 
   -- DSD, where neither is
   pub dsd-filled : {last : List ℕ} {r : Fill} → f.sound ≡ Dsd → not (eqb (length lent) 0) || not (eqb (length frames) 0) ≡ false
-      → Filling counted (dsdSound (contentsWith (frameBytes f.channels) wanted f.positions contents)) w out last r → FillsSound last r
+      → Filling counted (dsd_sound (contents_with (frame_bytes f.channels) wanted f.positions contents)) w out last r → FillsSound last r
   dsd-filled e h q = rw (e, none_lent (eqb (length lent) 0) (eqb (length frames) 0) counted h) q
 
   -- DST
   pub dst-filled : {last : List ℕ} {r : Fill} → f.sound ≡ Dst
-      → Filling (isLent (plainBytes f.crc f.channels) (between (needed_at (sizes f.crc lengths) w out) lengths) lent frames contents)
-      (sound f.crc (framesWith (plainBytes f.crc f.channels) (needed_at (sizes f.crc lengths) w out) lengths frames contents))
+      → Filling (is_lent (plain_bytes f.crc f.channels) (between (needed_at (sizes f.crc lengths) w out) lengths) lent frames contents)
+      (sound f.crc (frames_with (plain_bytes f.crc f.channels) (needed_at (sizes f.crc lengths) w out) lengths frames contents))
       w out last r
       → FillsSound last r
   dst-filled e q = rw e q

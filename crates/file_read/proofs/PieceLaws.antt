@@ -9,13 +9,13 @@ use Rattle.window.specs.Window.{after, Wrote}
 use Rattle.window.proofs.WindowLaws.{◌then◌, before}
 use Rattle.sound_reads.specs.declared.lent.Fill.{Fill}
 use Rattle.sound_reads.specs.declared.lent.Fill.TheVariants.{Filled, NotLent}
-use Rattle.sound_reads.specs.Positions.{positionsFor}
+use Rattle.sound_reads.specs.Positions.{positions_for}
 use Rattle.sound_reads.specs.Lent.{needed_at}
-use Rattle.read_rules.specs.Format.{unitSizes}
+use Rattle.read_rules.specs.Format.{unit_sizes}
 use Rattle.read_rules.specs.Needed.{needed}
 use Rattle.read_answer.specs.declared.answer.ReadAnswer.TheVariants as answer
-use Rattle.file_read.specs.Lent.{soundWith}
-use Rattle.file_read.specs.Read.{Request, neededFor, lentFault, fileWith, Reading}
+use Rattle.file_read.specs.Lent.{sound_with}
+use Rattle.file_read.specs.Read.{Request, needed_for, lent_fault, file_with, Reading}
 use Rattle.file_read.proofs.FillLaws.{FillsSound, untouched, put}
 
 module _ (q : Request) (out : List ℕ) where
@@ -27,29 +27,29 @@ module _ (q : Request) (out : List ℕ) where
   behind = after (length q.header) (length out) begin
 
   -- the positions that are needed from there on are those that the read needs
-  pub needed-behind : needed_at (unitSizes q.format q.lengths) behind out ≡ neededFor q (length out)
+  pub needed-behind : needed_at (unit_sizes q.format q.lengths) behind out ≡ needed_for q (length out)
   unfolding after needed
   needed-behind =
       let e : length out - (0 + min (length q.header - q.offset) (length out - 0)) ≡ length out - (length q.header - q.offset) = omega arith in
-      ap (λ (n : ℕ). positionsFor (unitSizes q.format q.lengths) (q.offset - length q.header) n) e
+      ap (λ (n : ℕ). positions_for (unit_sizes q.format q.lengths) (q.offset - length q.header) n) e
 
   -- what `fill` promises at a place
   abbrev Sounds : Window → List ℕ → Fill → Type 0
   Sounds w last r = FillsSound q.format q.lengths q.lent q.frames q.contents w out last r
 
   -- 43: nothing is written
-  pub not-lent : {v : Window} {mid : List ℕ} {r : Fill} → v ≡ behind → Sounds v mid r → r ≡ NotLent → Reading (lentFault q (length out)) q out mid (answer.Refused 43 0)
+  pub not-lent : {v : Window} {mid : List ℕ} {r : Fill} → v ≡ behind → Sounds v mid r → r ≡ NotLent → Reading (lent_fault q (length out)) q out mid (answer.Refused 43 0)
   not-lent {v} {mid} {r} e s told =
       let u = untouched _ (rw (e, needed-behind) at s) told in
       rw u.wrong (record { answer = refl; buffer = u.same })
 
   -- the three pieces, of which the header is put last
   pub laid : {v w u t : Window} {mid late last : List ℕ} {r : Fill} → v ≡ behind → Sounds v mid r → r ≡ Filled w → Wrote q.trailer w mid late u
-      → Wrote q.header begin late last t → Reading (lentFault q (length out)) q out last (answer.Filled u.at)
+      → Wrote q.header begin late last t → Reading (lent_fault q (length out)) q out last (answer.Filled u.at)
   unfolding after
   laid {v} {w} {u} {t} {mid} {late} {last} {r} e s told trailer header =
       let p = put _ (rw (e, needed-behind) at s) told in
-      let sound = soundWith q.format q.lengths (neededFor q (length out)) q.frames q.contents in
-      let all : Wrote (fileWith q (length out)) begin out last u = rw (append_assoc q.header sound q.trailer) (before refl (p.wrote then trailer) header) in
-      let n : 0 + min (length (fileWith q (length out)) - q.offset) (length out - 0) ≡ min (length out) (length (fileWith q (length out)) - q.offset) = omega arith in
+      let sound = sound_with q.format q.lengths (needed_for q (length out)) q.frames q.contents in
+      let all : Wrote (file_with q (length out)) begin out last u = rw (append_assoc q.header sound q.trailer) (before refl (p.wrote then trailer) header) in
+      let n : 0 + min (length (file_with q (length out)) - q.offset) (length out - 0) ≡ min (length out) (length (file_with q (length out)) - q.offset) = omega arith in
       rw p.right (record { answer = ap answer.Filled (ap (λ (v : Window). v.at) all.place ∙ n); buffer = all.filled })

@@ -2,9 +2,9 @@
 ghost use Rattle.std.specs.Prelude.{length};
 ghost use Rattle.sound_reads.specs.Fill.{Filling};
 ghost use Rattle.sound_reads.specs.Lent.{needed_at};
-ghost use Rattle.read_rules.specs.Format.{unitSizes};
-ghost use Rattle.file_read.specs.Lent.{isLentFor, soundWith};
-ghost use Rattle.file_read.specs.Read.{requestOf, lentFault, Reading, Reads};
+ghost use Rattle.read_rules.specs.Format.{unit_sizes};
+ghost use Rattle.file_read.specs.Lent.{is_lent_for, sound_with};
+ghost use Rattle.file_read.specs.Read.{request_of, lent_fault, Reading, Reads};
 
 use prop_fields::compression::Sound;
 use read_answer::answer::ReadAnswer;
@@ -24,8 +24,8 @@ fn fill(
     contents: &[u8],
 ) -> Fill
     ensures { Filling
-        (isLentFor format lengths.now (needed_at (unitSizes format lengths.now) w out.old) lent.now frames.now contents.now)
-        (soundWith format lengths.now (needed_at (unitSizes format lengths.now) w out.old) frames.now contents.now)
+        (is_lent_for format lengths.now (needed_at (unit_sizes format lengths.now) w out.old) lent.now frames.now contents.now)
+        (sound_with format lengths.now (needed_at (unit_sizes format lengths.now) w out.old) frames.now contents.now)
         w out.old out.new result }
 {
     let sound = format.sound;
@@ -63,8 +63,8 @@ fn pieces(
     contents: &[u8],
     out: &mut [u8],
 ) -> ReadAnswer
-    ensures { Reading (lentFault (requestOf format lengths.now header.now trailer.now offset lent.now frames.now contents.now) (length out.old))
-        (requestOf format lengths.now header.now trailer.now offset lent.now frames.now contents.now)
+    ensures { Reading (lent_fault (request_of format lengths.now header.now trailer.now offset lent.now frames.now contents.now) (length out.old))
+        (request_of format lengths.now header.now trailer.now offset lent.now frames.now contents.now)
         out.old out.new result }
 {
     let begin = Window {
@@ -102,7 +102,7 @@ pub fn read(
     contents: &[u8],
     out: &mut [u8],
 ) -> ReadAnswer
-    ensures { Reads (requestOf format lengths.now header.now trailer.now offset lent.now frames.now contents.now)
+    ensures { Reads (request_of format lengths.now header.now trailer.now offset lent.now frames.now contents.now)
         out.old out.new result }
 {
     let verdict = format.fault(lengths, header.len() as u64, trailer.len() as u64);

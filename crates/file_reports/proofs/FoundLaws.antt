@@ -7,7 +7,7 @@ use Rattle.chunk_names.specs.Name.{Name, same}
 use Rattle.tree.specs.Tree.{Chunks, stop, leaf, node, join, each}
 use Rattle.tree.specs.Reader.{Report, report, reports}
 use Rattle.file_reports.specs.Values.{plain}
-use Rattle.file_reports.specs.Recording.{valuesUnder}
+use Rattle.file_reports.specs.Recording.{values_under}
 use Rattle.file_reports.proofs.ReportLaws.{reports-join}
 
 pub nothing : (b : Bool) → ◌≡◌ {A = List (List ℕ)} (cond b [] []) []
@@ -16,18 +16,18 @@ nothing false = refl
 
 -- the values of reports, part by part
 module _ (p n : Name) where
-  values-none : valuesUnder p n [] ≡ []
-  unfolding valuesUnder
+  values-none : values_under p n [] ≡ []
+  unfolding values_under
   values-none = refl
 
-  values-append : (rs ss : List Report) → valuesUnder p n (rs ++ ss) ≡ valuesUnder p n rs ++ valuesUnder p n ss
-  unfolding valuesUnder
+  values-append : (rs ss : List Report) → values_under p n (rs ++ ss) ≡ values_under p n rs ++ values_under p n ss
+  unfolding values_under
   values-append [] ss = refl
   values-append (r ∷ rs) ss = go (same r.parent p && same r.name n) (values-append rs ss)
     where
-      go : (b : Bool) → valuesUnder p n (rs ++ ss) ≡ valuesUnder p n rs ++ valuesUnder p n ss
-          → cond b (r.value ∷ valuesUnder p n (rs ++ ss)) (valuesUnder p n (rs ++ ss))
-          ≡ cond b (r.value ∷ valuesUnder p n rs) (valuesUnder p n rs) ++ valuesUnder p n ss
+      go : (b : Bool) → values_under p n (rs ++ ss) ≡ values_under p n rs ++ values_under p n ss
+          → cond b (r.value ∷ values_under p n (rs ++ ss)) (values_under p n (rs ++ ss))
+          ≡ cond b (r.value ∷ values_under p n rs) (values_under p n rs) ++ values_under p n ss
       go true e = rw e
       go false e = e
 
@@ -38,7 +38,7 @@ module _ (p n : Name) where
   module _ (known : Name → Name → Bool) where
     -- the values of a tree's chunks that are sought
     abbrev pub found : Name → Chunks → List (List ℕ)
-    found parent t = valuesUnder p n (reports (plain known) parent t)
+    found parent t = values_under p n (reports (plain known) parent t)
 
     module _ (parent : Name) where
       pub found-stop : found parent stop ≡ []
@@ -55,12 +55,12 @@ module _ (p n : Name) where
 
       -- a chunk that may be known, and what is reported in it
       reported : (k : Bool) (name : Name) (content : List ℕ) (rs : List Report)
-          → valuesUnder p n (cond k (report (plain known) parent name content ∷ rs) [])
-          ≡ cond (sought parent name) (cond k (content ∷ []) []) [] ++ cond k (valuesUnder p n rs) []
-      unfolding report valuesUnder
+          → values_under p n (cond k (report (plain known) parent name content ∷ rs) [])
+          ≡ cond (sought parent name) (cond k (content ∷ []) []) [] ++ cond k (values_under p n rs) []
+      unfolding report values_under
       reported true name content rs = go (sought parent name)
         where
-          go : (s : Bool) → cond s (content ∷ valuesUnder p n rs) (valuesUnder p n rs) ≡ cond s (content ∷ []) [] ++ valuesUnder p n rs
+          go : (s : Bool) → cond s (content ∷ values_under p n rs) (values_under p n rs) ≡ cond s (content ∷ []) [] ++ values_under p n rs
           go true = refl
           go false = refl
       reported false name content rs = rw (nothing (sought parent name))
@@ -72,10 +72,10 @@ module _ (p n : Name) where
       found-leaf name content = rw append-nil (rw (values-none, nothing (known parent name), append-nil) at (reported (known parent name) name content []))
 
       -- a chunk that may be left out
-      pub found-if : (b : Bool) (name : Name) (content : List ℕ)
+      pub found_if : (b : Bool) (name : Name) (content : List ℕ)
           → found parent (cond b (leaf name content stop) stop) ≡ cond (sought parent name) (cond (known parent name) (cond b (content ∷ []) []) []) []
-      found-if true name content = found-leaf name content
-      found-if false name content = rw (nothing (known parent name), nothing (sought parent name)) found-stop
+      found_if true name content = found-leaf name content
+      found_if false name content = rw (nothing (known parent name), nothing (sought parent name)) found-stop
 
       -- one container
       pub found-node : (name : Name) (form : List ℕ) (inside : Chunks)

@@ -7,12 +7,12 @@ use lib.ListN.{length}
 use Rattle.chunk.specs.Number.{be}
 use Rattle.chunk_names.specs.Name.{Name, ascii}
 use Rattle.tree.specs.Tree.{stop, leaf, join}
-use Rattle.checksum.specs.Crc.{crcOf}
+use Rattle.checksum.specs.Crc.{crc_of}
 use Rattle.dst.specs.Frame.{Frame}
 use Rattle.dst.specs.Unit.{unit, units}
 use Rattle.dst.specs.Head.{rate}
 use Rattle.file_reports.proofs.FoundLaws.{nothing, sought, found, found-stop, found-leaf, found-join}
-use Rattle.file_reports.proofs.MissedLaws.{missed-leaf, missed-if}
+use Rattle.file_reports.proofs.MissedLaws.{missed_leaf, missed_if}
 
 module _ (p n : Name) (known : Name → Name → Bool) (quiet : sought p n (ascii "DST ") (ascii "DSTC") ≡ false) where
   -- the values of chunks with a name in DST, if they are sought and known
@@ -24,7 +24,7 @@ module _ (p n : Name) (known : Name → Name → Bool) (quiet : sought p n (asci
   found-unit crc f =
       found-join p n known (ascii "DST ") (leaf (ascii "DSTF") f.code stop) _
       ∙ rw (
-        missed-if p n known (ascii "DST ") crc _ (missed-leaf p n known (ascii "DST ") (ascii "DSTC") (be 4 (crcOf f.content)) quiet),
+        missed_if p n known (ascii "DST ") crc _ (missed_leaf p n known (ascii "DST ") (ascii "DSTC") (be 4 (crc_of f.content)) quiet),
         found-leaf p n known (ascii "DST ") (ascii "DSTF") f.code,
       )
       (append-nil _)

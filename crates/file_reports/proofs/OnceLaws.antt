@@ -28,10 +28,10 @@ module _ {A B : Type 0} (g : A → List B) where
 
   -- where only the names of one rank make something
   module _ (rank : A → ℕ) (r : ℕ) (made : List B) (only : (a : A) → g a ≡ cond (eqb (rank a) r) made []) where
-    as-often : (xs : List A) → flat_map g xs ≡ repeated made (times (map rank xs) r)
+    as_often : (xs : List A) → flat_map g xs ≡ repeated made (times (map rank xs) r)
     unfolding flat_map repeated
-    as-often [] = rw (times_none r)
-    as-often (a ∷ xs) = go (eqb (rank a) r) (only a) (times-cons (rank a) (map rank xs) r) (as-often xs)
+    as_often [] = rw (times_none r)
+    as_often (a ∷ xs) = go (eqb (rank a) r) (only a) (times-cons (rank a) (map rank xs) r) (as_often xs)
       where
         go : (b : Bool) → g a ≡ cond b made [] → times (map rank (a ∷ xs)) r ≡ cond b 1 0 + times (map rank xs) r
             → flat_map g xs ≡ repeated made (times (map rank xs) r) → g a ++ flat_map g xs ≡ repeated made (times (map rank (a ∷ xs)) r)
@@ -40,4 +40,4 @@ module _ {A B : Type 0} (g : A → List B) where
 
     pub once : (xs : List A) → times (map rank xs) r ≡ 1 → flat_map g xs ≡ made
     unfolding repeated
-    once xs e = as-often xs ∙ rw e (append-nil made)
+    once xs e = as_often xs ∙ rw e (append-nil made)

@@ -32,30 +32,30 @@ pub record Tells (known : Name → Name → Bool) (parent : Name) (t u : Chunks)
   pub reported : reports (dsdiff known) parent t ≡ reports (plain known) parent u
 
 module _ {known : Name → Name → Bool} {parent : Name} where
-  pub stop-tells : Tells known parent stop stop
+  pub stop_tells : Tells known parent stop stop
   unfolding reports
-  stop-tells = record { reported = refl }
+  stop_tells = record { reported = refl }
 
-  pub leaf-tells : {name content v : List ℕ} {t u : Chunks} → value parent name content ≡ v → Tells known parent t u
+  pub leaf_tells : {name content v : List ℕ} {t u : Chunks} → value parent name content ≡ v → Tells known parent t u
       → Tells known parent (leaf name content t) (leaf name v u)
   unfolding reports report
-  leaf-tells e h = record { reported = rw (e, h.reported) }
+  leaf_tells e h = record { reported = rw (e, h.reported) }
 
   -- a container: its form, and what is in it
-  pub node-tells : {name form : List ℕ} {i j t u : Chunks} → value parent name form ≡ form → Tells known name i j → Tells known parent t u
+  pub node_tells : {name form : List ℕ} {i j t u : Chunks} → value parent name form ≡ form → Tells known name i j → Tells known parent t u
       → Tells known parent (node name form i t) (node name form j u)
   unfolding reports report
-  node-tells e h k = record { reported = rw (e, h.reported, k.reported) }
+  node_tells e h k = record { reported = rw (e, h.reported, k.reported) }
 
-  pub join-tells : {a b t u : Chunks} → Tells known parent a b → Tells known parent t u → Tells known parent (join a t) (join b u)
-  join-tells {a} {b} {t} {u} h k =
+  pub join_tells : {a b t u : Chunks} → Tells known parent a b → Tells known parent t u → Tells known parent (join a t) (join b u)
+  join_tells {a} {b} {t} {u} h k =
       record { reported = rw (reports-join (dsdiff known) parent a t, reports-join (plain known) parent b u, h.reported, k.reported) }
 
   pub if-tells : (b : Bool) {t u : Chunks} → (b ≡ true → Tells known parent t u) → Tells known parent (cond b t stop) (cond b u stop)
   if-tells true h = h refl
-  if-tells false h = stop-tells
+  if-tells false h = stop_tells
 
   pub each_tells : {A : Type 0} (f g : A → Chunks) (l : List A) → All (λ a. Tells known parent (f a) (g a)) l → Tells known parent (each f l) (each g l)
   unfolding each
-  each_tells f g [] h = stop-tells
-  each_tells f g (a ∷ l) h = join-tells h.0 (each_tells f g l h.1)
+  each_tells f g [] h = stop_tells
+  each_tells f g (a ∷ l) h = join_tells h.0 (each_tells f g l h.1)

@@ -12,75 +12,75 @@ use Rattle.tree.specs.Reader.{reports}
 use Rattle.tree.specs.Value.{value, dsdiff}
 use Rattle.chunk_names.specs.declared.LocalChunk.{LocalChunk}
 use Rattle.chunk_names.specs.declared.LocalChunk.TheVariants.{Property, SoundData, DstIndex, EditedMasterInfo, Comments}
-use Rattle.comt.specs.Comment.{writtenComments, hasComt, comtChunk}
-use Rattle.comt.proofs.CommentLaws.{comments-fit, comt-count}
+use Rattle.comt.specs.Comment.{written_comments, has_comt, comt_chunk}
+use Rattle.comt.proofs.CommentLaws.{comments_fit, comt-count}
 use Rattle.comt.proofs.ValueLaws.{comt-plain}
 use Rattle.dst.specs.Frame.{Frame}
 use Rattle.dst.specs.Unit.{unit}
 use Rattle.dst.specs.Head.{dst}
 use Rattle.prop_fields.specs.declared.compression.Sound.{Sound}
 use Rattle.prop_fields.specs.declared.compression.Sound.TheVariants.{Dsd, Dst}
-use Rattle.prop.specs.Property.{property, propertyChunk}
-use Rattle.master_info.specs.Diin.{hasDiin, diin}
+use Rattle.prop.specs.Property.{property, property_chunk}
+use Rattle.master_info.specs.Diin.{has_diin, diin}
 use Rattle.refusal.specs.declared.verdict.Verdict.TheVariants.{Accepted}
-use Rattle.caller_chunks.specs.Caller.{callerChunk, callerChunks}
+use Rattle.caller_chunks.specs.Caller.{caller_chunk, caller_chunks}
 use Rattle.build_options.specs.Inputs.{Inputs}
 use Rattle.checks.specs.InputVerdict.{verdict}
 use Rattle.checks.proofs.AcceptedLaws as accepted
 use Rattle.checks.proofs.DiinBelowLaws.{limited}
 use Rattle.file_tree.specs.Parts.{parts, properties, info, has_index}
-use Rattle.file_tree.specs.Sound.{soundChunk}
-use Rattle.file_tree.specs.File.{given, place, localChunk, formChunks, fileOf}
-use Rattle.file_reports.specs.Values.{propertyTold, localTold, fileTold, told}
-use Rattle.file_reports.proofs.ReportLaws.{every, follows, Tells, stop-tells, leaf-tells, node-tells, join-tells, if-tells, each_tells}
-use Rattle.file_reports.proofs.CallerNameLaws.{free-value, Free, callers-free}
+use Rattle.file_tree.specs.Sound.{sound_chunk}
+use Rattle.file_tree.specs.File.{given, place, local_chunk, form_chunks, file_of}
+use Rattle.file_reports.specs.Values.{property_told, local_told, file_told, told}
+use Rattle.file_reports.proofs.ReportLaws.{every, follows, Tells, stop_tells, leaf_tells, node_tells, join_tells, if-tells, each_tells}
+use Rattle.file_reports.proofs.CallerNameLaws.{free_value, Free, callers_free}
 use Rattle.file_reports.proofs.ShapeLaws.{units-each}
-use Rattle.file_reports.proofs.PropertyLaws.{property-tells}
-use Rattle.file_reports.proofs.InfoLaws.{info-tells}
+use Rattle.file_reports.proofs.PropertyLaws.{property_tells}
+use Rattle.file_reports.proofs.InfoLaws.{info_tells}
 
 module _ (known : Name → Name → Bool) where
   -- the frames' chunks have no pad in their data
-  unit-tells : (crc : Bool) (f : Frame) → Tells known (ascii "DST ") (unit crc f) (unit crc f)
+  unit_tells : (crc : Bool) (f : Frame) → Tells known (ascii "DST ") (unit crc f) (unit crc f)
   unfolding unit value same
-  unit-tells crc f = leaf-tells refl (if-tells crc (λ on. leaf-tells refl stop-tells))
+  unit_tells crc f = leaf_tells refl (if-tells crc (λ on. leaf_tells refl stop_tells))
 
-  sound-tells : (s : Sound) (crc : Bool) (fs : List Frame) → Tells known (ascii "FRM8") (soundChunk s crc fs) (soundChunk s crc fs)
-  unfolding soundChunk dst value same
-  sound-tells Dsd crc fs = leaf-tells refl stop-tells
-  sound-tells Dst crc fs =
-      let frames = each_tells (unit crc) (unit crc) fs (every _ (unit-tells crc) fs) in
-      node-tells refl (leaf-tells refl (rw (units-each crc fs) frames)) stop-tells
+  sound_tells : (s : Sound) (crc : Bool) (fs : List Frame) → Tells known (ascii "FRM8") (sound_chunk s crc fs) (sound_chunk s crc fs)
+  unfolding sound_chunk dst value same
+  sound_tells Dsd crc fs = leaf_tells refl stop_tells
+  sound_tells Dst crc fs =
+      let frames = each_tells (unit crc) (unit crc) fs (every _ (unit_tells crc) fs) in
+      node_tells refl (leaf_tells refl (rw (units-each crc fs) frames)) stop_tells
 
   -- a caller's chunk has all its data
-  caller-tells : (raw row : List ℕ) → Free row → Tells known (ascii "FRM8") (callerChunk raw row) (callerChunk raw row)
-  unfolding callerChunk
-  caller-tells raw row free = leaf-tells (free-value (be 4 (get_or row 0 0)) free _) stop-tells
+  caller_tells : (raw row : List ℕ) → Free row → Tells known (ascii "FRM8") (caller_chunk raw row) (caller_chunk raw row)
+  unfolding caller_chunk
+  caller_tells raw row free = leaf_tells (free_value (be 4 (get_or row 0 0)) free _) stop_tells
 
 module _ (x : Inputs) (ok : verdict x ≡ Accepted) (known : Name → Name → Bool) (fs : List Frame) where
-  local-tells : (c : LocalChunk) → Tells known (ascii "FRM8") (localChunk (parts x) (place x) fs c) (localTold (parts x) (place x) fs c)
-  unfolding localChunk localTold property diin comtChunk value same
-  local-tells Property =
+  local_tells : (c : LocalChunk) → Tells known (ascii "FRM8") (local_chunk (parts x) (place x) fs c) (local_told (parts x) (place x) fs c)
+  unfolding local_chunk local_told property diin comt_chunk value same
+  local_tells Property =
       let p = properties (parts x) in
-      node-tells refl (each_tells (propertyChunk p) (propertyTold p) x.propertyOrder (every _ (property-tells known p) x.propertyOrder)) stop-tells
-  local-tells SoundData = sound-tells known x.area.sound x.options.dst_crc fs
-  local-tells DstIndex = if-tells (has_index (parts x)) (λ on. leaf-tells refl stop-tells)
-  local-tells EditedMasterInfo =
+      node_tells refl (each_tells (property_chunk p) (property_told p) x.property_order (every _ (property_tells known p) x.property_order)) stop_tells
+  local_tells SoundData = sound_tells known x.area.sound x.options.dst_crc fs
+  local_tells DstIndex = if-tells (has_index (parts x)) (λ on. leaf_tells refl stop_tells)
+  local_tells EditedMasterInfo =
       let i = info (parts x) in
-      let chunks = info-tells known x.pool x.raw x.tracks x.markers i (limited x ok) in
-      if-tells (hasDiin x.pool x.raw x.tracks x.markers i x.infoOrder)
-      (λ has. node-tells refl (each_tells _ _ x.infoOrder (every _ chunks x.infoOrder)) stop-tells)
-  local-tells Comments =
+      let chunks = info_tells known x.pool x.raw x.tracks x.markers i (limited x ok) in
+      if-tells (has_diin x.pool x.raw x.tracks x.markers i x.info_order)
+      (λ has. node_tells refl (each_tells _ _ x.info_order (every _ chunks x.info_order)) stop_tells)
+  local_tells Comments =
       let text = (info (parts x)).text in
-      let cs = writtenComments x.pool x.comments text in
-      let fits = comments-fit x.pool text (256 ^ 4) x.comments (λ k h. omega (arith, (accepted.comments-fit x ok).short k h)) in
-      if-tells (hasComt cs) (λ has. leaf-tells (comt-plain cs (omega (arith, comt-count cs has)) fits) stop-tells)
+      let cs = written_comments x.pool x.comments text in
+      let fits = comments_fit x.pool text (256 ^ 4) x.comments (λ k h. omega (arith, (accepted.comments_fit x ok).short k h)) in
+      if-tells (has_comt cs) (λ has. leaf_tells (comt-plain cs (omega (arith, comt-count cs has)) fits) stop_tells)
 
-  file-tells : Tells known [] (fileOf x fs) (fileTold x fs)
-  unfolding fileOf formChunks fileTold callerChunks value same
-  file-tells =
-      let locals = each_tells _ _ (given x) (every _ local-tells (given x)) in
-      let callers = each_tells _ _ (rows 3 x.callers) (follows Free _ (caller-tells known x.raw) (rows 3 x.callers) (callers-free x ok)) in
-      node-tells refl (leaf-tells refl (join-tells locals callers)) stop-tells
+  file_tells : Tells known [] (file_of x fs) (file_told x fs)
+  unfolding file_of form_chunks file_told caller_chunks value same
+  file_tells =
+      let locals = each_tells _ _ (given x) (every _ local_tells (given x)) in
+      let callers = each_tells _ _ (rows 3 x.callers) (follows Free _ (caller_tells known x.raw) (rows 3 x.callers) (callers_free x ok)) in
+      node_tells refl (leaf_tells refl (join_tells locals callers)) stop_tells
 
-  pub file-told : reports (dsdiff known) [] (fileOf x fs) ≡ told known x fs
-  file-told = file-tells.reported
+  pub file-told : reports (dsdiff known) [] (file_of x fs) ≡ told known x fs
+  file-told = file_tells.reported

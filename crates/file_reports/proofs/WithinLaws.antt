@@ -6,14 +6,14 @@ use Prim.Native.Nat.{ℕ}
 use native.Mathlib.Omega.{arith}
 use lib.Dec.{eqb}
 use borrow.Author.Tests.{eqb-true}
-use Rattle.chunk_names.specs.Name.{Name, ascii, same, reservedNames, reserved}
+use Rattle.chunk_names.specs.Name.{Name, ascii, same, reserved_names, reserved}
 use Rattle.chunk_names.specs.declared.LocalChunk.{LocalChunk}
 use Rattle.chunk_names.specs.declared.LocalChunk.TheVariants.{Property, SoundData, DstIndex, EditedMasterInfo, Comments}
 use Rattle.prop_fields.specs.declared.compression.Sound.{Sound}
 use Rattle.prop_fields.specs.declared.compression.Sound.TheVariants.{Dsd, Dst}
-use Rattle.refusal.specs.Orders.{localRank}
+use Rattle.refusal.specs.Orders.{local_rank}
 use Rattle.file_reports.proofs.FoundLaws.{sought}
-use Rattle.file_reports.proofs.LocalLaws.{localName}
+use Rattle.file_reports.proofs.LocalLaws.{local_name}
 use Rattle.file_reports.proofs.CallerNameLaws.{none-among}
 
 -- FRM8, FVER and a name that a caller may use are not sought, and of the local chunks only one or a chunk in it
@@ -21,11 +21,11 @@ pub record Within (s : Sound) (d : LocalChunk) (p n : Name) : Type 0 where
   pub form : sought p n [] (ascii "FRM8") ≡ false
   pub version : sought p n (ascii "FRM8") (ascii "FVER") ≡ false
   pub callers : (name : Name) → reserved name ≡ false → sought p n (ascii "FRM8") name ≡ false
-  pub local : (c : LocalChunk) → (sought p n (ascii "FRM8") (localName s c) || same (localName s c) p) ≡ eqb (localRank c) (localRank d)
+  pub local : (c : LocalChunk) → (sought p n (ascii "FRM8") (local_name s c) || same (local_name s c) p) ≡ eqb (local_rank c) (local_rank d)
 
-pub in-property : (s : Sound) (n : Name) → Within s Property (ascii "PROP") n
+pub in_property : (s : Sound) (n : Name) → Within s Property (ascii "PROP") n
 unfolding same
-in-property s n = record {
+in_property s n = record {
   form = refl;
   version = refl;
   callers = λ name free. refl;
@@ -39,11 +39,11 @@ in-property s n = record {
 }
 
 pub is-index : (s : Sound) → Within s DstIndex (ascii "FRM8") (ascii "DSTI")
-unfolding same reservedNames
+unfolding same reserved_names
 is-index s = record {
   form = refl;
   version = refl;
-  callers = λ name free. none-among name reservedNames free 5 (omega arith);
+  callers = λ name free. none-among name reserved_names free 5 (omega arith);
   local = λ c. elim c [
     | Property ↦ refl
     | SoundData ↦ elim s [ Dsd ↦ refl | Dst ↦ refl ]
@@ -54,11 +54,11 @@ is-index s = record {
 }
 
 pub is-dsd : Within Dsd SoundData (ascii "FRM8") (ascii "DSD ")
-unfolding same reservedNames
+unfolding same reserved_names
 is-dsd = record {
   form = refl;
   version = refl;
-  callers = λ name free. none-among name reservedNames free 3 (omega arith);
+  callers = λ name free. none-among name reserved_names free 3 (omega arith);
   local = λ c. elim c [ Property ↦ refl | SoundData ↦ refl | DstIndex ↦ refl | EditedMasterInfo ↦ refl | Comments ↦ refl ];
 }
 
@@ -72,13 +72,13 @@ in_dst n = record {
 }
 
 -- a local chunk, by its rank
-chunkAt : ℕ → LocalChunk
-chunkAt rank =
+chunk_at : ℕ → LocalChunk
+chunk_at rank =
     cond (eqb rank 0) Property (cond (eqb rank 1) SoundData (cond (eqb rank 2) DstIndex (cond (eqb rank 3) EditedMasterInfo Comments)))
 
-at-rank : (c : LocalChunk) → chunkAt (localRank c) ≡ c
-unfolding chunkAt
-at-rank c = elim c [ Property ↦ refl | SoundData ↦ refl | DstIndex ↦ refl | EditedMasterInfo ↦ refl | Comments ↦ refl ]
+at_rank : (c : LocalChunk) → chunk_at (local_rank c) ≡ c
+unfolding chunk_at
+at_rank c = elim c [ Property ↦ refl | SoundData ↦ refl | DstIndex ↦ refl | EditedMasterInfo ↦ refl | Comments ↦ refl ]
 
-pub same_rank : (c d : LocalChunk) → eqb (localRank c) (localRank d) ≡ true → c ≡ d
-same_rank c d e = sym (at-rank c) ∙ ap chunkAt (eqb-true (localRank c) (localRank d) e) ∙ at-rank d
+pub same_rank : (c d : LocalChunk) → eqb (local_rank c) (local_rank d) ≡ true → c ≡ d
+same_rank c d e = sym (at_rank c) ∙ ap chunk_at (eqb-true (local_rank c) (local_rank d) e) ∙ at_rank d

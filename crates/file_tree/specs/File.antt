@@ -7,65 +7,65 @@ use Rattle.chunk_names.specs.Name.{ascii}
 use Rattle.tree.specs.Tree.{Chunks, stop, leaf, node, join, each}
 use Rattle.chunk_names.specs.declared.LocalChunk.{LocalChunk}
 use Rattle.chunk_names.specs.declared.LocalChunk.TheVariants.{Property, SoundData, DstIndex, EditedMasterInfo, Comments}
-use Rattle.comt.specs.Comment.{comtChunk}
+use Rattle.comt.specs.Comment.{comt_chunk}
 use Rattle.dst.specs.Frame.{Frame}
 use Rattle.prop.specs.Property.{property}
 use Rattle.master_info.specs.Diin.{diin}
 use Rattle.build_options.specs.Inputs.{Inputs}
 use Rattle.file_tree.specs.Parts.{Parts, parts, properties, info, has_index, index_of}
-use Rattle.file_tree.specs.Sound.{soundChunk, soundSize}
-use Rattle.caller_chunks.specs.Caller.{callerChunks}
-use Rattle.file_tree.specs.Sides.{givenNames, version, front, back}
+use Rattle.file_tree.specs.Sound.{sound_chunk, sound_size}
+use Rattle.caller_chunks.specs.Caller.{caller_chunks}
+use Rattle.file_tree.specs.Sides.{given_names, version, front, back}
 
 -- the names of the local chunks that are given
 abbrev pub given : Inputs → List LocalChunk
-given x = givenNames x.localOrder x.localCount
+given x = given_names x.local_order x.local_count
 
 -- FRM8's data before the sound, and what follows the sound, with a place for the first sound byte
-abbrev pub frontOf : Inputs → ℕ → List ℕ
-frontOf x base = front (parts x) base (given x)
+abbrev pub front_of : Inputs → ℕ → List ℕ
+front_of x base = front (parts x) base (given x)
 
-abbrev pub backOf : Inputs → ℕ → List ℕ
-backOf x base = back (parts x) base (given x) x.callers
+abbrev pub back_of : Inputs → ℕ → List ℕ
+back_of x base = back (parts x) base (given x) x.callers
 
 -- the place of the first sound byte in the file: past FRM8's name and size and its data before the sound, whose length no place changes
 unfoldable pub place : Inputs → ℕ
-place x = 12 + length (frontOf x 0)
+place x = 12 + length (front_of x 0)
 
 -- how many bytes the sound has
-abbrev pub soundLength : Inputs → ℕ
-soundLength x = soundSize x.area.sound x.area x.options.dst_crc x.lengths
+abbrev pub sound_length : Inputs → ℕ
+sound_length x = sound_size x.area.sound x.area x.options.dst_crc x.lengths
 
 -- FRM8's data size
-abbrev pub formSize : Inputs → ℕ
-formSize x = length (frontOf x (place x)) + soundLength x + length (backOf x (place x))
+abbrev pub form_size : Inputs → ℕ
+form_size x = length (front_of x (place x)) + sound_length x + length (back_of x (place x))
 
 -- THE HEADER, up to the first sound byte, and THE TRAILER, from the inputs alone
-unfoldable pub headerOf : Inputs → List ℕ
-headerOf x = ascii "FRM8" ++ be 8 (formSize x) ++ frontOf x (place x)
+unfoldable pub header_of : Inputs → List ℕ
+header_of x = ascii "FRM8" ++ be 8 (form_size x) ++ front_of x (place x)
 
-unfoldable pub trailerOf : Inputs → List ℕ
-trailerOf x = backOf x (place x)
+unfoldable pub trailer_of : Inputs → List ℕ
+trailer_of x = back_of x (place x)
 
 -- a local chunk, if it is to be written; the sound chunk is that of the frames
-unfoldable pub localChunk : Parts → ℕ → List Frame → LocalChunk → Chunks
-localChunk p base fs Property = property p.propertyOrder (properties p)
-localChunk p base fs SoundData = soundChunk p.area.sound p.options.dst_crc fs
-localChunk p base fs DstIndex = cond (has_index p) (leaf (ascii "DSTI") (index_of p base) stop) stop
-localChunk p base fs EditedMasterInfo = diin p.pool p.raw p.tracks p.markers (info p) p.infoOrder
-localChunk p base fs Comments = comtChunk p.pool p.comments (info p).text
+unfoldable pub local_chunk : Parts → ℕ → List Frame → LocalChunk → Chunks
+local_chunk p base fs Property = property p.property_order (properties p)
+local_chunk p base fs SoundData = sound_chunk p.area.sound p.options.dst_crc fs
+local_chunk p base fs DstIndex = cond (has_index p) (leaf (ascii "DSTI") (index_of p base) stop) stop
+local_chunk p base fs EditedMasterInfo = diin p.pool p.raw p.tracks p.markers (info p) p.info_order
+local_chunk p base fs Comments = comt_chunk p.pool p.comments (info p).text
 
 -- the chunks in FRM8, after its form
-unfoldable pub formChunks : Inputs → List Frame → Chunks
-formChunks x fs =
-    leaf (ascii "FVER") version (join (each (localChunk (parts x) (place x) fs) (given x)) (callerChunks x.raw x.callers))
+unfoldable pub form_chunks : Inputs → List Frame → Chunks
+form_chunks x fs =
+    leaf (ascii "FVER") version (join (each (local_chunk (parts x) (place x) fs) (given x)) (caller_chunks x.raw x.callers))
 
 -- THE FILE, from inputs and frames
-unfoldable pub fileOf : Inputs → List Frame → Chunks
-fileOf x fs = node (ascii "FRM8") (ascii "DSD ") (formChunks x fs) stop
+unfoldable pub file_of : Inputs → List Frame → Chunks
+file_of x fs = node (ascii "FRM8") (ascii "DSD ") (form_chunks x fs) stop
 
 -- the orders have as many places as their arrays
 pub record Ordered (x : Inputs) : Type 0 where
-  pub property : length x.propertyOrder ≡ 5
-  pub info : length x.infoOrder ≡ 4
-  pub local : length x.localOrder ≡ 5
+  pub property : length x.property_order ≡ 5
+  pub info : length x.info_order ≡ 4
+  pub local : length x.local_order ≡ 5

@@ -9,15 +9,15 @@ use Rattle.master_info.specs.declared.diin.Info.{Info}
 use Rattle.build_options.specs.declared.area.Area.{Area}
 use Rattle.build_options.specs.declared.options.Options.{Options}
 use Rattle.build_options.specs.declared.options.Settings.{Settings}
-use Rattle.build_options.specs.Area.{isDst}
-use Rattle.build_options.specs.Options.{effective, infoOf}
+use Rattle.build_options.specs.Area.{is_dst}
+use Rattle.build_options.specs.Options.{effective, info_of}
 use Rattle.build_options.specs.Inputs.{Inputs}
 
 pub record Parts : Type 0 where
   pub area : Area
   pub options : Options
-  pub propertyOrder : List PropertyChunk
-  pub infoOrder : List InfoChunk
+  pub property_order : List PropertyChunk
+  pub info_order : List InfoChunk
   pub pool : List ℕ
   pub raw : List ℕ
   pub tracks : List ℕ
@@ -26,11 +26,11 @@ pub record Parts : Type 0 where
   pub lengths : List ℕ
 
 abbrev pub parts_of : Area → Options → List PropertyChunk → List InfoChunk → List ℕ → List ℕ → List ℕ → List ℕ → List ℕ → List ℕ → Parts
-parts_of area options propertyOrder infoOrder pool raw tracks markers comments lengths = record {
+parts_of area options property_order info_order pool raw tracks markers comments lengths = record {
   area = area;
   options = options;
-  propertyOrder = propertyOrder;
-  infoOrder = infoOrder;
+  property_order = property_order;
+  info_order = info_order;
   pool = pool;
   raw = raw;
   tracks = tracks;
@@ -42,11 +42,11 @@ parts_of area options propertyOrder infoOrder pool raw tracks markers comments l
 -- of all that a build is given
 abbrev pub parts : Inputs → Parts
 parts x =
-    parts_of x.area x.options x.propertyOrder x.infoOrder x.pool x.raw x.tracks x.markers x.comments x.lengths
+    parts_of x.area x.options x.property_order x.info_order x.pool x.raw x.tracks x.markers x.comments x.lengths
 
 -- what PROP tells
-abbrev pub propertiesOf : Area → Options → Settings → Properties
-propertiesOf area o s = record {
+abbrev pub properties_of : Area → Options → Settings → Properties
+properties_of area o s = record {
   sound = area.sound;
   layout = area.layout;
   channels = area.channels;
@@ -59,19 +59,19 @@ propertiesOf area o s = record {
 
 -- the settings of PROP and of DIIN
 abbrev pub properties : Parts → Properties
-properties p = propertiesOf p.area p.options (effective p.options)
+properties p = properties_of p.area p.options (effective p.options)
 
 abbrev pub info : Parts → Info
-info p = infoOf p.area p.options (effective p.options)
+info p = info_of p.area p.options (effective p.options)
 
 -- whether there is a DSTI (01: "DST only, under its switch")
 abbrev pub has_index : Parts → Bool
-has_index p = isDst p.area.sound && p.options.dst_index
+has_index p = is_dst p.area.sound && p.options.dst_index
 
 -- the offset in the first entry of the index, where the first sound byte is at `base`
-abbrev pub firstOffset : Parts → ℕ → ℕ
-firstOffset p base = moved base (shift_of p.options.dst_index_offset)
+abbrev pub first_offset : Parts → ℕ → ℕ
+first_offset p base = moved base (shift_of p.options.dst_index_offset)
 
 -- the entries of the index
 abbrev pub index_of : Parts → ℕ → List ℕ
-index_of p base = index p.options.dst_crc (firstOffset p base) p.lengths
+index_of p base = index p.options.dst_crc (first_offset p base) p.lengths

@@ -12,41 +12,41 @@ use Rattle.comt.specs.Comment.{comt}
 use Rattle.dst_index.specs.Index.{dsti}
 use Rattle.prop.specs.Property.{property}
 use Rattle.master_info.specs.Diin.{diin}
-use Rattle.file_tree.specs.Parts.{Parts, properties, info, has_index, firstOffset}
-use Rattle.file_tree.specs.Sound.{soundHead}
-use Rattle.caller_chunks.specs.Caller.{callerChunks}
+use Rattle.file_tree.specs.Parts.{Parts, properties, info, has_index, first_offset}
+use Rattle.file_tree.specs.Sound.{sound_head}
+use Rattle.caller_chunks.specs.Caller.{caller_chunks}
 
-abbrev pub isSound : LocalChunk → Bool
-isSound Property = false
-isSound SoundData = true
-isSound DstIndex = false
-isSound EditedMasterInfo = false
-isSound Comments = false
+abbrev pub is_sound : LocalChunk → Bool
+is_sound Property = false
+is_sound SoundData = true
+is_sound DstIndex = false
+is_sound EditedMasterInfo = false
+is_sound Comments = false
 
 -- the names that are given
-abbrev pub givenNames : List LocalChunk → ℕ → List LocalChunk
-givenNames order count = take (min count 5) order
+abbrev pub given_names : List LocalChunk → ℕ → List LocalChunk
+given_names order count = take (min count 5) order
 
 -- the names before the sound
 unfoldable pub before : List LocalChunk → List LocalChunk
 before [] = []
-before (c ∷ cs) = cond (isSound c) [] (c ∷ before cs)
+before (c ∷ cs) = cond (is_sound c) [] (c ∷ before cs)
 
 -- the names behind the sound
 unfoldable pub behind : List LocalChunk → List LocalChunk
 behind [] = []
-behind (c ∷ cs) = cond (isSound c) cs (behind cs)
+behind (c ∷ cs) = cond (is_sound c) cs (behind cs)
 
 -- a local chunk other than the sound, written out: nothing if it is not to be written
-unfoldable pub localBytes : Parts → ℕ → LocalChunk → List ℕ
-localBytes p base Property = bytes (property p.propertyOrder (properties p))
-localBytes p base SoundData = []
-localBytes p base DstIndex = cond (has_index p) (dsti p.options.dst_crc (firstOffset p base) p.lengths) []
-localBytes p base EditedMasterInfo = bytes (diin p.pool p.raw p.tracks p.markers (info p) p.infoOrder)
-localBytes p base Comments = comt p.pool p.comments (info p).text
+unfoldable pub local_bytes : Parts → ℕ → LocalChunk → List ℕ
+local_bytes p base Property = bytes (property p.property_order (properties p))
+local_bytes p base SoundData = []
+local_bytes p base DstIndex = cond (has_index p) (dsti p.options.dst_crc (first_offset p base) p.lengths) []
+local_bytes p base EditedMasterInfo = bytes (diin p.pool p.raw p.tracks p.markers (info p) p.info_order)
+local_bytes p base Comments = comt p.pool p.comments (info p).text
 
-abbrev pub localsBytes : Parts → ℕ → List LocalChunk → List ℕ
-localsBytes p base cs = flat_map (localBytes p base) cs
+abbrev pub locals_bytes : Parts → ℕ → List LocalChunk → List ℕ
+locals_bytes p base cs = flat_map (local_bytes p base) cs
 
 -- the version of the format (01: "FVER 0x01050000")
 abbrev pub version : List ℕ
@@ -57,9 +57,9 @@ unfoldable pub front : Parts → ℕ → List LocalChunk → List ℕ
 front p base cs =
     ascii "DSD "
     ++ chunk (ascii "FVER") version
-    ++ localsBytes p base (before cs)
-    ++ soundHead p.area.sound p.area p.options.dst_crc p.lengths
+    ++ locals_bytes p base (before cs)
+    ++ sound_head p.area.sound p.area p.options.dst_crc p.lengths
 
 -- what follows the sound: the names behind it, and the caller's chunks
 unfoldable pub back : Parts → ℕ → List LocalChunk → List ℕ → List ℕ
-back p base cs callers = localsBytes p base (behind cs) ++ bytes (callerChunks p.raw callers)
+back p base cs callers = locals_bytes p base (behind cs) ++ bytes (caller_chunks p.raw callers)

@@ -4,36 +4,36 @@ use Rattle.std.specs.Prelude.{◌≡◌, Bool, List, ◌++◌, map, ℕ, ◌*◌
 use Rattle.chunk.specs.Number.{be}
 use Rattle.chunk_names.specs.Name.{ascii}
 use Rattle.tree.specs.Tree.{Chunks, stop, leaf}
-use Rattle.dst.specs.Frame.{Frame, frameBytes, dsdSound}
+use Rattle.dst.specs.Frame.{Frame, frame_bytes, dsd_sound}
 use Rattle.dst.specs.Unit.{sound, lengths, sizes}
 use Rattle.dst.specs.Start.{sum}
 use Rattle.dst.specs.Head.{head, dst}
 use Rattle.prop_fields.specs.declared.compression.Sound.{Sound}
 use Rattle.prop_fields.specs.declared.compression.Sound.TheVariants.{Dsd, Dst}
 use Rattle.build_options.specs.declared.area.Area.{Area}
-use Rattle.build_options.specs.Area.{areaPositions}
+use Rattle.build_options.specs.Area.{area_positions}
 
 -- the sound of frames
-unfoldable pub soundBytes : Sound → Bool → List Frame → List ℕ
-soundBytes Dsd crc fs = dsdSound (map (λ (f : Frame). f.content) fs)
-soundBytes Dst crc fs = sound crc fs
+unfoldable pub sound_bytes : Sound → Bool → List Frame → List ℕ
+sound_bytes Dsd crc fs = dsd_sound (map (λ (f : Frame). f.content) fs)
+sound_bytes Dst crc fs = sound crc fs
 
 -- the chunk that holds it
-unfoldable pub soundChunk : Sound → Bool → List Frame → Chunks
-soundChunk Dsd crc fs = leaf (ascii "DSD ") (soundBytes Dsd crc fs) stop
-soundChunk Dst crc fs = dst crc fs stop
+unfoldable pub sound_chunk : Sound → Bool → List Frame → Chunks
+sound_chunk Dsd crc fs = leaf (ascii "DSD ") (sound_bytes Dsd crc fs) stop
+sound_chunk Dst crc fs = dst crc fs stop
 
 -- frames of the lengths that a build is given: of DSD each has a frame's bytes of content, of DST as many DST bytes as its length says
 abbrev pub Fits : Sound → Area → List ℕ → List Frame → Type 0
-Fits Dsd a ls fs = map (λ (f : Frame). length f.content) fs ≡ replicate (areaPositions a) (frameBytes a.channels)
+Fits Dsd a ls fs = map (λ (f : Frame). length f.content) fs ≡ replicate (area_positions a) (frame_bytes a.channels)
 Fits Dst a ls fs = lengths fs ≡ ls
 
 -- how long the sound of such frames is
-unfoldable pub soundSize : Sound → Area → Bool → List ℕ → ℕ
-soundSize Dsd a crc ls = areaPositions a * frameBytes a.channels
-soundSize Dst a crc ls = sum (sizes crc ls)
+unfoldable pub sound_size : Sound → Area → Bool → List ℕ → ℕ
+sound_size Dsd a crc ls = area_positions a * frame_bytes a.channels
+sound_size Dst a crc ls = sum (sizes crc ls)
 
 -- the sound chunk up to the first sound byte
-unfoldable pub soundHead : Sound → Area → Bool → List ℕ → List ℕ
-soundHead Dsd a crc ls = ascii "DSD " ++ be 8 (soundSize Dsd a crc ls)
-soundHead Dst a crc ls = head crc ls
+unfoldable pub sound_head : Sound → Area → Bool → List ℕ → List ℕ
+sound_head Dsd a crc ls = ascii "DSD " ++ be 8 (sound_size Dsd a crc ls)
+sound_head Dst a crc ls = head crc ls

@@ -4,27 +4,27 @@ use Rattle.std.specs.Prelude.{ℕ, ◌*◌, ◌/◌, ◌%◌, ◌^◌, List, [],
 use Rattle.chunk.specs.Number.{be}
 use Rattle.frame_time.specs.declared.time.FrameTime.{FrameTime}
 
-abbrev pub framesPerSecond : ℕ
-framesPerSecond = 75
+abbrev pub frames_per_second : ℕ
+frames_per_second = 75
 
-abbrev pub framesPerMinute : ℕ
-framesPerMinute = 4_500
+abbrev pub frames_per_minute : ℕ
+frames_per_minute = 4_500
 
-abbrev pub framesPerHour : ℕ
-framesPerHour = 270_000
+abbrev pub frames_per_hour : ℕ
+frames_per_hour = 270_000
 
-abbrev pub samplesPerFrame : ℕ
-samplesPerFrame = 37_632
+abbrev pub samples_per_frame : ℕ
+samples_per_frame = 37_632
 
 -- hours, minutes, seconds and samples of frame g; of the hours the low 16 bits, which are all that the file's field holds
-unfoldable pub timeOf : ℕ → FrameTime
-timeOf g = record {
-  hours = g / framesPerHour % 2 ^ 16;
-  minutes = g / framesPerMinute % 60;
-  seconds = g / framesPerSecond % 60;
-  samples = g % framesPerSecond * samplesPerFrame;
+unfoldable pub time_of : ℕ → FrameTime
+time_of g = record {
+  hours = g / frames_per_hour % 2 ^ 16;
+  minutes = g / frames_per_minute % 60;
+  seconds = g / frames_per_second % 60;
+  samples = g % frames_per_second * samples_per_frame;
 }
 
 -- a time as ABSS and MARK have it: hours u16, minutes and seconds bytes, samples u32
-unfoldable pub timeBytes : FrameTime → List ℕ
-timeBytes t = be 2 t.hours ++ (t.minutes ∷ []) ++ (t.seconds ∷ []) ++ be 4 t.samples
+unfoldable pub time_bytes : FrameTime → List ℕ
+time_bytes t = be 2 t.hours ++ (t.minutes ∷ []) ++ (t.seconds ∷ []) ++ be 4 t.samples

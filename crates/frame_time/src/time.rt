@@ -1,7 +1,7 @@
 // The time of a frame, as ABSS and MARK have it.
 ghost use Rattle.std.specs.Prelude.{◌≡◌};
 ghost use Rattle.chunk.specs.Append.{Appended};
-ghost use Rattle.frame_time.specs.Time.{timeOf, timeBytes};
+ghost use Rattle.frame_time.specs.Time.{time_of, time_bytes};
 
 use chunk::Cursor;
 
@@ -23,7 +23,7 @@ pub struct FrameTime {
 
 // The time of frame g. Of hours that pass a u16, the low 16 bits.
 pub fn time(g: u64) -> FrameTime
-    ensures { result ≡ timeOf g }
+    ensures { result ≡ time_of g }
 {
     FrameTime {
         hours: (g / FRAMES_PER_HOUR % 0x1_0000) as u16,
@@ -35,7 +35,7 @@ pub fn time(g: u64) -> FrameTime
 
 // The eight bytes of a time.
 pub fn time_bytes(c: Cursor, out: &mut [u8], t: FrameTime) -> Cursor
-    ensures { Appended out.old c.at (timeBytes t) out.new result.at }
+    ensures { Appended out.old c.at (time_bytes t) out.new result.at }
 {
     let c = c.be16(out, t.hours);
     let c = c.byte(out, t.minutes);

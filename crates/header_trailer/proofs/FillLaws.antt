@@ -5,18 +5,18 @@ use Prim.Native.Nat.{ℕ, ◌-◌, ◌*◌, ◌^◌, ◌<◌, min}
 use Rattle.chunk.specs.Append.{moved, Appended}
 use Rattle.chunk.specs.Number.{be}
 use Rattle.chunk_names.specs.Name.{ascii}
-use Rattle.dst.specs.Frame.{frameBytes}
-use Rattle.build_options.specs.Area.{areaPositions}
+use Rattle.dst.specs.Frame.{frame_bytes}
+use Rattle.build_options.specs.Area.{area_positions}
 use Rattle.build_options.specs.Inputs.{Inputs}
 use Rattle.file_tree.specs.Parts.{parts}
-use Rattle.file_tree.specs.Sized.{frontSized}
-use Rattle.file_tree.specs.File.{given, backOf, soundLength}
+use Rattle.file_tree.specs.Sized.{front_sized}
+use Rattle.file_tree.specs.File.{given, back_of, sound_length}
 use Rattle.file_tree.proofs.FileLaws.{front-sized}
 use Rattle.header_trailer.specs.Fill.{FilledAround}
 
-pub filled : (x : Inputs) (rest base : ℕ) {s size a b c : ℕ} {h h' t t' : List ℕ} → areaPositions x.area * frameBytes x.area.channels < 2 ^ 64
-    → s ≡ min (soundLength x) (2 ^ 64 - 1) → size ≡ moved rest s → a ≡ 0
-    → Appended h a (ascii "FRM8" ++ be 8 size ++ frontSized (parts x) s base (given x)) h' b → Appended t a (backOf x base) t' c
+pub filled : (x : Inputs) (rest base : ℕ) {s size a b c : ℕ} {h h' t t' : List ℕ} → area_positions x.area * frame_bytes x.area.channels < 2 ^ 64
+    → s ≡ min (sound_length x) (2 ^ 64 - 1) → size ≡ moved rest s → a ≡ 0
+    → Appended h a (ascii "FRM8" ++ be 8 size ++ front_sized (parts x) s base (given x)) h' b → Appended t a (back_of x base) t' c
     → FilledAround x rest base h h' t t' s
 filled x rest base {s} low sound e z header trailer = record {
   sound = sound;

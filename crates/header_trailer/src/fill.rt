@@ -1,5 +1,5 @@
 // Header and trailer, written. The sound's length is worked out here, once in a build.
-ghost use Rattle.build_options.specs.Inputs.{inputsOf};
+ghost use Rattle.build_options.specs.Inputs.{inputs_of};
 ghost use Rattle.header_trailer.specs.Fill.{FilledAround};
 
 use build_options::area::Area;
@@ -28,7 +28,7 @@ pub fn fill_around(
     head: &mut [u8],
     tail: &mut [u8],
 ) -> u64
-    ensures { FilledAround (inputsOf area options property_order info_order local_order local_count pool.now raw.now tracks.now markers.now comments.now callers.now lengths.now) rest base
+    ensures { FilledAround (inputs_of area options property_order info_order local_order local_count pool.now raw.now tracks.now markers.now comments.now callers.now lengths.now) rest base
         head.old head.new tail.old tail.new result }
 {
     let sound = file_layout::sound::sound_size(area, options.dst_crc, lengths);

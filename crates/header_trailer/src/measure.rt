@@ -1,5 +1,5 @@
 // The lengths of header and trailer.
-ghost use Rattle.build_options.specs.Inputs.{inputsOf};
+ghost use Rattle.build_options.specs.Inputs.{inputs_of};
 ghost use Rattle.header_trailer.specs.Measure.{Measured};
 
 use build_options::area::Area;
@@ -30,7 +30,7 @@ pub fn measure(
     callers: &[u32],
     lengths: &[u32],
 ) -> Lengths
-    ensures { Measured (inputsOf area options property_order info_order local_order local_count pool.now raw.now tracks.now markers.now comments.now callers.now lengths.now) result }
+    ensures { Measured (inputs_of area options property_order info_order local_order local_count pool.now raw.now tracks.now markers.now comments.now callers.now lengths.now) result }
 {
     let mut empty = [0u8; 0];
     let start = Cursor::new();

@@ -10,13 +10,13 @@ use borrow.Author.Tests.{ne_eqb}
 use Rattle.chunk.specs.Append.{moved}
 use Rattle.chunk_names.specs.Name.{Name, ascii}
 use Rattle.chunk.specs.Chunk.{chunk, occupied}
-use Rattle.comt.specs.Comment.{writtenComments, comtData, hasComt, comt}
+use Rattle.comt.specs.Comment.{written_comments, comt_data, has_comt, comt}
 use Rattle.tree.specs.Tree.{Chunks, stop, node, bytes}
 use Rattle.chunk_names.specs.declared.InfoChunk.{InfoChunk}
 use Rattle.texts.specs.declared.text.TextOptions.{TextOptions}
 use Rattle.chunk.proofs.ChunkLaws.{length-chunk}
 use Rattle.tree.proofs.TreeLaws.{bytes-stop, bytes-node}
-use Rattle.master_info.specs.Diin.{infoChunks, hasDiin, diin}
+use Rattle.master_info.specs.Diin.{info_chunks, has_diin, diin}
 use Rattle.master_info.specs.declared.diin.Info.{Info}
 
 -- the cursor is not at 0 any more after these bytes
@@ -35,12 +35,12 @@ module _ (name : Name) (four : length name ≡ 4) where
   node-told true form inside = rw bytes-node (chunk-told true (form ++ bytes inside))
   node-told false form inside = rw bytes-stop
 
-pub comt-told : (pool words : List ℕ) (o : TextOptions) → moves (comt pool words o) ≡ hasComt (writtenComments pool words o)
+pub comt-told : (pool words : List ℕ) (o : TextOptions) → moves (comt pool words o) ≡ has_comt (written_comments pool words o)
 unfolding comt
-comt-told pool words o = let cs = writtenComments pool words o in chunk-told (ascii "COMT") refl (hasComt cs) (comtData cs)
+comt-told pool words o = let cs = written_comments pool words o in chunk-told (ascii "COMT") refl (has_comt cs) (comt_data cs)
 
 pub diin-told : (pool raw tracks markers : List ℕ) (info : Info) (order : List InfoChunk)
-    → moves (bytes (diin pool raw tracks markers info order)) ≡ hasDiin pool raw tracks markers info order
+    → moves (bytes (diin pool raw tracks markers info order)) ≡ has_diin pool raw tracks markers info order
 unfolding diin
 diin-told pool raw tracks markers info order =
-    node-told (ascii "DIIN") refl (hasDiin pool raw tracks markers info order) [] (infoChunks pool raw tracks markers info order)
+    node-told (ascii "DIIN") refl (has_diin pool raw tracks markers info order) [] (info_chunks pool raw tracks markers info order)

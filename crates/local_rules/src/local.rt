@@ -1,8 +1,8 @@
 // The order of the local chunks (37 to 39).
 ghost use Rattle.std.specs.Prelude.{◌≡◌, ◌&&◌, ◌<◌, length};
-ghost use Rattle.comt.specs.Comment.{writtenComments, hasComt};
-ghost use Rattle.master_info.specs.Diin.{hasDiin};
-ghost use Rattle.local_rules.specs.Local.{repeats, lacks, soundFirst, soundBeforeProp, lacksAny, localFaults};
+ghost use Rattle.comt.specs.Comment.{written_comments, has_comt};
+ghost use Rattle.master_info.specs.Diin.{has_diin};
+ghost use Rattle.local_rules.specs.Local.{repeats, lacks, sound_first, sound_before_prop, lacks_any, local_faults};
 
 use chunk::Cursor;
 use chunk_names::{InfoChunk, LocalChunk};
@@ -44,7 +44,7 @@ fn lacks(ranks: &[u32], rank: u32) -> bool
 // Whether place k names the sound, and no place before it PROP.
 fn sound_first(ranks: &[u32], k: usize) -> bool
     requires { k < length ranks.now }
-    ensures { result ≡ soundFirst ranks.now k }
+    ensures { result ≡ sound_first ranks.now k }
 {
     let rank = ranks[k];
     (rank == SOUND_DATA) & lacks(&ranks[..k], PROPERTY)
@@ -52,7 +52,7 @@ fn sound_first(ranks: &[u32], k: usize) -> bool
 
 // Whether the sound comes before PROP.
 fn sound_before_prop(ranks: &[u32]) -> bool
-    ensures { result ≡ soundBeforeProp ranks.now }
+    ensures { result ≡ sound_before_prop ranks.now }
 {
     let mut found = false;
     let mut k = 0;
@@ -73,7 +73,7 @@ fn lacks_diin(
     order: [InfoChunk; 4],
     info: Info,
 ) -> bool
-    ensures { result ≡ (lacks ranks.now 3 && hasDiin pool.now raw.now tracks.now markers.now info order) }
+    ensures { result ≡ (lacks ranks.now 3 && has_diin pool.now raw.now tracks.now markers.now info order) }
 {
     if !lacks(ranks, EDITED_MASTER_INFO) {
         return false;
@@ -86,7 +86,7 @@ fn lacks_diin(
 
 // The same of COMT.
 fn lacks_comt(ranks: &[u32], pool: &[u32], comments: &[u32], text: TextOptions) -> bool
-    ensures { result ≡ (lacks ranks.now 4 && hasComt (writtenComments pool.now comments.now text)) }
+    ensures { result ≡ (lacks ranks.now 4 && has_comt (written_comments pool.now comments.now text)) }
 {
     if !lacks(ranks, COMMENTS) {
         return false;
@@ -109,7 +109,7 @@ fn lacks_any(
     order: [InfoChunk; 4],
     info: Info,
 ) -> bool
-    ensures { result ≡ lacksAny pool.now raw.now tracks.now markers.now comments.now order info dst_index ranks.now }
+    ensures { result ≡ lacks_any pool.now raw.now tracks.now markers.now comments.now order info dst_index ranks.now }
 {
     let text = info.text;
     let a = lacks(ranks, PROPERTY);
@@ -133,7 +133,7 @@ pub fn local_faults(
     order: [InfoChunk; 4],
     info: Info,
 ) -> Verdict
-    ensures { result ≡ localFaults pool.now raw.now tracks.now markers.now comments.now order info dst_index local count }
+    ensures { result ≡ local_faults pool.now raw.now tracks.now markers.now comments.now order info dst_index local count }
 {
     let ranks = refusal::orders::local_ranks(local);
     let n = refusal::orders::at_most(count, 5);

@@ -10,8 +10,8 @@ use Rattle.markers.specs.declared.marker.Marker.{Marker}
 unfoldable pub kind_of : ℕ → MarkerKind
 kind_of n = cond (eqb n 0) TrackStart (cond (eqb n 1) TrackStop (cond (eqb n 2) ProgramStart Index))
 
-unfoldable pub customOf : List ℕ → Marker
-customOf row = record {
+unfoldable pub custom_of : List ℕ → Marker
+custom_of row = record {
   frame = get_or row 0 0;
   kind = kind_of (get_or row 1 0 / 2 ^ 16);
   track_flags = get_or row 1 0 % 2 ^ 16;
@@ -20,4 +20,4 @@ customOf row = record {
 
 -- the markers of the whole rows
 unfoldable pub customs : List ℕ → List Marker
-customs words = map customOf (rows 4 words)
+customs words = map custom_of (rows 4 words)

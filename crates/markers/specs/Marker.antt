@@ -3,13 +3,13 @@
 use Rattle.std.specs.Prelude.{ℕ, ◌+◌, ◌-◌, List, [], ◌++◌, length}
 use Rattle.chunk.specs.Number.{be}
 use Rattle.chunk_names.specs.Name.{ascii}
-use Rattle.frame_time.specs.Time.{timeOf, timeBytes}
+use Rattle.frame_time.specs.Time.{time_of, time_bytes}
 use Rattle.chunk.specs.Chunk.{counts}
 use Rattle.tree.specs.Tree.{Chunks, stop, leaf}
 use Rattle.texts.specs.Extent.{part}
-use Rattle.texts.specs.Text.{textBytes, textPad}
+use Rattle.texts.specs.Text.{text_bytes, text_pad}
 use Rattle.texts.specs.declared.text.TextRule.{TextRule}
-use Rattle.prop_fields.specs.Start.{startFrame}
+use Rattle.prop_fields.specs.Start.{start_frame}
 use Rattle.markers.specs.declared.marker.MarkerKind.{MarkerKind}
 use Rattle.markers.specs.declared.marker.MarkerKind.TheVariants.{TrackStart, TrackStop, ProgramStart, Index}
 use Rattle.markers.specs.declared.marker.MarkerText.{MarkerText}
@@ -17,47 +17,47 @@ use Rattle.markers.specs.declared.marker.MarkerText.TheVariants.{Empty, Bytes, T
 use Rattle.markers.specs.declared.marker.Marker.{Marker}
 use Rattle.markers.specs.declared.marker.Marking.{Marking}
 
-unfoldable pub kindNumber : MarkerKind → ℕ
-kindNumber TrackStart = 0
-kindNumber TrackStop = 1
-kindNumber ProgramStart = 2
-kindNumber Index = 4
+unfoldable pub kind_number : MarkerKind → ℕ
+kind_number TrackStart = 0
+kind_number TrackStop = 1
+kind_number ProgramStart = 2
+kind_number Index = 4
 
 -- the flags that a marker of a kind is written with: only a track start has any
-unfoldable pub kindFlags : MarkerKind → ℕ → ℕ
-kindFlags TrackStart flags = flags
-kindFlags TrackStop flags = 0
-kindFlags ProgramStart flags = 0
-kindFlags Index flags = 0
+unfoldable pub kind_flags : MarkerKind → ℕ → ℕ
+kind_flags TrackStart flags = flags
+kind_flags TrackStop flags = 0
+kind_flags ProgramStart flags = 0
+kind_flags Index flags = 0
 
 abbrev pub flags_of : Marker → ℕ
-flags_of m = kindFlags m.kind m.track_flags
+flags_of m = kind_flags m.kind m.track_flags
 
 -- the two fields that hold zero: the offset in samples (4 bytes) and the channel (2 bytes)
-abbrev pub markOffset : ℕ
-markOffset = 0
+abbrev pub mark_offset : ℕ
+mark_offset = 0
 
-abbrev pub markChannel : ℕ
-markChannel = 0
+abbrev pub mark_channel : ℕ
+mark_channel = 0
 
 -- a marker's text in the file: bytes of the byte pool as they are, a title of the text pool converted
-unfoldable pub markerText : List ℕ → List ℕ → TextRule → MarkerText → List ℕ
-markerText pool bytes rule Empty = []
-markerText pool bytes rule (Bytes e) = part bytes e
-markerText pool bytes rule (Title e) = textBytes rule (part pool e)
+unfoldable pub marker_text : List ℕ → List ℕ → TextRule → MarkerText → List ℕ
+marker_text pool bytes rule Empty = []
+marker_text pool bytes rule (Bytes e) = part bytes e
+marker_text pool bytes rule (Title e) = text_bytes rule (part pool e)
 
 -- the frame whose time is written, from 0 on
 unfoldable pub frame_of : Marking → Marker → ℕ
-frame_of how m = startFrame how.start + m.frame - how.first
+frame_of how m = start_frame how.start + m.frame - how.first
 
 -- the 18 bytes before the text's count
-unfoldable pub markHead : Marking → Marker → List ℕ
-markHead how m = timeBytes (timeOf (frame_of how m)) ++ be 4 markOffset ++ be 2 (kindNumber m.kind) ++ be 2 markChannel ++ be 2 (flags_of m)
+unfoldable pub mark_head : Marking → Marker → List ℕ
+mark_head how m = time_bytes (time_of (frame_of how m)) ++ be 4 mark_offset ++ be 2 (kind_number m.kind) ++ be 2 mark_channel ++ be 2 (flags_of m)
 
 -- the data of MARK, of a text in the file
-unfoldable pub markData : Marking → Marker → List ℕ → List ℕ
-markData how m text = counts 4 (markHead how m) text ++ textPad how.text (length text)
+unfoldable pub mark_data : Marking → Marker → List ℕ → List ℕ
+mark_data how m text = counts 4 (mark_head how m) text ++ text_pad how.text (length text)
 
 -- MARK, of a marker whose text is in the pools
 unfoldable pub mark : List ℕ → List ℕ → Marking → Marker → Chunks
-mark pool bytes how m = leaf (ascii "MARK") (markData how m (markerText pool bytes how.text.rule m.text)) stop
+mark pool bytes how m = leaf (ascii "MARK") (mark_data how m (marker_text pool bytes how.text.rule m.text)) stop

@@ -3,7 +3,7 @@ ghost use Rattle.std.specs.Prelude.{◌≡◌, length};
 ghost use Rattle.chunk.specs.Append.{Appended};
 ghost use Rattle.tree.specs.Tree.{bytes, each};
 ghost use Rattle.markers.specs.Marker.{mark};
-ghost use Rattle.markers.specs.Custom.{kind_of, customOf, customs};
+ghost use Rattle.markers.specs.Custom.{kind_of, custom_of, customs};
 
 use crate::marker::{Marker, MarkerKind, MarkerText, Marking};
 use chunk::Cursor;
@@ -31,7 +31,7 @@ fn kind_of(n: u32) -> MarkerKind
 // The marker of a row.
 fn custom_of(row: &[u32]) -> Marker
     requires { length row.now ≡ 4 }
-    ensures { result ≡ customOf row.now }
+    ensures { result ≡ custom_of row.now }
 {
     Marker {
         frame: row[0],

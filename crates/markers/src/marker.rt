@@ -4,8 +4,8 @@ ghost use Rattle.chunk.specs.Append.{Appended};
 ghost use Rattle.chunk.specs.Number.{be};
 ghost use Rattle.tree.specs.Tree.{bytes};
 ghost use Rattle.texts.specs.Extent.{part};
-ghost use Rattle.texts.specs.Text.{textPad};
-ghost use Rattle.markers.specs.Marker.{kindNumber, flags_of, markerText, frame_of, markHead, mark};
+ghost use Rattle.texts.specs.Text.{text_pad};
+ghost use Rattle.markers.specs.Marker.{kind_number, flags_of, marker_text, frame_of, mark_head, mark};
 
 use chunk::Cursor;
 use prop_fields::start::Start;
@@ -51,7 +51,7 @@ pub struct Marking {
 
 impl MarkerKind {
     pub fn value(self) -> u16
-        ensures { result ≡ kindNumber self }
+        ensures { result ≡ kind_number self }
     {
         match self {
             MarkerKind::TrackStart => {
@@ -121,7 +121,7 @@ fn marker_text(
     rule: TextRule,
     text: MarkerText,
 ) -> Cursor
-    ensures { Appended out.old c.at (markerText pool.now raw.now rule text) out.new result.at }
+    ensures { Appended out.old c.at (marker_text pool.now raw.now rule text) out.new result.at }
 {
     match text {
         MarkerText::Empty => {
@@ -138,7 +138,7 @@ fn marker_text(
 
 // How many bytes it has.
 fn marker_text_count(pool: &[u32], raw: &[u8], rule: TextRule, text: MarkerText) -> u32
-    ensures { result ≡ length (markerText pool.now raw.now rule text) }
+    ensures { result ≡ length (marker_text pool.now raw.now rule text) }
 {
     match text {
         MarkerText::Empty => {
@@ -155,7 +155,7 @@ fn marker_text_count(pool: &[u32], raw: &[u8], rule: TextRule, text: MarkerText)
 
 // The 18 bytes before the text's count.
 fn mark_head(c: Cursor, out: &mut [u8], how: Marking, m: Marker) -> Cursor
-    ensures { Appended out.old c.at (markHead how m) out.new result.at }
+    ensures { Appended out.old c.at (mark_head how m) out.new result.at }
 {
     let kind = m.kind;
     let time = frame_time::time::time(frame(how, m));
@@ -177,7 +177,7 @@ fn mark_data(
     m: Marker,
 ) -> Cursor
     ensures { Appended out.old c.at
-        (markHead how m ++ (be 4 count ++ markerText pool.now raw.now how.text.rule m.text) ++ textPad how.text count)
+        (mark_head how m ++ (be 4 count ++ marker_text pool.now raw.now how.text.rule m.text) ++ text_pad how.text count)
         out.new result.at }
 {
     let options = how.text;

@@ -14,16 +14,16 @@ use Rattle.chunk_names.specs.declared.InfoChunk.{InfoChunk}
 use Rattle.chunk_names.specs.declared.InfoChunk.TheVariants.{EditedMasterId, Markers, Artist, Title}
 use Rattle.tree.proofs.TreeLaws.{bytes-stop, bytes-leaf}
 use Rattle.texts.specs.Extent.{part}
-use Rattle.texts.specs.Text.{textBytes, is_written}
-use Rattle.diin_texts.specs.DiinText.{diinTextData, givenTextBytes, diinText}
+use Rattle.texts.specs.Text.{text_bytes, is_written}
+use Rattle.diin_texts.specs.DiinText.{diin_text_data, given_text_bytes, diin_text}
 use Rattle.diin_texts.specs.declared.diin_text.Text.{Text}
 use Rattle.diin_texts.specs.declared.diin_text.Text.TheVariants.{Absent, Given}
 use Rattle.texts.specs.declared.text.TextOptions.{TextOptions}
 use Rattle.texts.proofs.ExtentLaws.{length_part}
-use Rattle.texts.proofs.TextLaws.{extent-short}
-use Rattle.diin_texts.proofs.DiinTextLaws.{length-diin-text, diin-text-tree}
-use Rattle.master_info.specs.Pick.{ofTrack, firstPresent, pick}
-use Rattle.master_info.specs.Diin.{marking, markersOf, chosen, artistOf, titleOf, emid, infoChunk}
+use Rattle.texts.proofs.TextLaws.{extent_short}
+use Rattle.diin_texts.proofs.DiinTextLaws.{length-diin-text, diin-text_tree}
+use Rattle.master_info.specs.Pick.{of_track, first_present, pick}
+use Rattle.master_info.specs.Diin.{marking, markers_of, chosen, artist_of, title_of, emid, info_chunk}
 use Rattle.master_info.specs.declared.pick.ArtistTitleSource.{ArtistTitleSource}
 use Rattle.master_info.specs.declared.pick.ArtistTitleSource.TheVariants.{Album, Track, TrackThenAlbum}
 use Rattle.master_info.specs.declared.diin.Info.{Info}
@@ -40,33 +40,33 @@ module _ (n : ℕ) where
   emid-room raw Absent h = rw (bytes-stop) (omega arith)
   emid-room raw (Given e) h = rw (bytes-leaf) (chunk-room (ascii "EMID") (part raw e) n refl (le_trans (length_part raw e) h))
 
-  text-room : (name : Name) → length name ≡ 4 → (pool : List ℕ) (t : Text) (o : TextOptions) → ShortGiven t → length (diinText name pool t o) ≤ 18 + n
-  unfolding diinText givenTextBytes
+  text-room : (name : Name) → length name ≡ 4 → (pool : List ℕ) (t : Text) (o : TextOptions) → ShortGiven t → length (diin_text name pool t o) ≤ 18 + n
+  unfolding diin_text given_text_bytes
   text-room name four pool Absent o h = omega arith
   text-room name four pool (Given e) o h =
-      let text = textBytes o.rule (part pool e) in
-      let room : length (diinTextData text o) ≤ 5 + n = omega (arith, length-diin-text text o, extent-short o.rule pool e, h) in
-      go (is_written o (length text)) (chunk name (diinTextData text o)) (chunk-room name (diinTextData text o) (5 + n) four room)
+      let text = text_bytes o.rule (part pool e) in
+      let room : length (diin_text_data text o) ≤ 5 + n = omega (arith, length-diin-text text o, extent_short o.rule pool e, h) in
+      go (is_written o (length text)) (chunk name (diin_text_data text o)) (chunk-room name (diin_text_data text o) (5 + n) four room)
     where
       go : (b : Bool) (c : List ℕ) → length c ≤ 13 + (5 + n) → length (cond b c []) ≤ 18 + n
       go true c fits = omega (arith, fits)
       go false c fits = omega arith
 
-  of-track-short : (has : Bool) (t : Text) → ShortGiven t → ShortGiven (ofTrack has t)
-  unfolding ofTrack
-  of-track-short true t h = h
-  of-track-short false t h = tt
+  of_track_short : (has : Bool) (t : Text) → ShortGiven t → ShortGiven (of_track has t)
+  unfolding of_track
+  of_track_short true t h = h
+  of_track_short false t h = tt
 
-  first_short : (a b : Text) → ShortGiven a → ShortGiven b → ShortGiven (firstPresent a b)
-  unfolding firstPresent
+  first_short : (a b : Text) → ShortGiven a → ShortGiven b → ShortGiven (first_present a b)
+  unfolding first_present
   first_short Absent b i j = j
   first_short (Given e) b i j = i
 
   pick-short : (source : ArtistTitleSource) (has : Bool) (track album : Text) → ShortGiven track → ShortGiven album → ShortGiven (pick source has track album)
   unfolding pick
   pick-short Album has track album i j = j
-  pick-short Track has track album i j = of-track-short has track i
-  pick-short TrackThenAlbum has track album i j = first_short (ofTrack has track) album (of-track-short has track i) j
+  pick-short Track has track album i j = of_track_short has track i
+  pick-short TrackThenAlbum has track album i j = first_short (of_track has track) album (of_track_short has track i) j
 
   pub chosen-short : (info : Info) (track album : Text) → ShortGiven track → ShortGiven album → ShortGiven (chosen info track album)
   unfolding chosen
@@ -83,23 +83,23 @@ module _ (n : ℕ) where
     pub id : ShortGiven info.emid
     pub artists : ShortGiven info.track.artist × ShortGiven info.album.artist
     pub titles : ShortGiven info.track.title × ShortGiven info.album.title
-    pub texts : ShortTexts n (markersOf tracks custom info)
-    pub few : length (markersOf tracks custom info) ≤ k
+    pub texts : ShortTexts n (markers_of tracks custom info)
+    pub few : length (markers_of tracks custom info) ≤ k
 
   -- the most bytes of each chunk of DIIN, and of a run of at most k MARK
-  abbrev pub infoMost : ℕ → InfoChunk → ℕ
-  infoMost k EditedMasterId = 13 + n
-  infoMost k Markers = (36 + n) * k
-  infoMost k Artist = 18 + n
-  infoMost k Title = 18 + n
+  abbrev pub info_most : ℕ → InfoChunk → ℕ
+  info_most k EditedMasterId = 13 + n
+  info_most k Markers = (36 + n) * k
+  info_most k Artist = 18 + n
+  info_most k Title = 18 + n
 
   pub info-room : (k : ℕ) (pool raw tracks custom : List ℕ) (info : Info) → Limited k tracks custom info
-      → (c : InfoChunk) → length (bytes (infoChunk pool raw tracks custom info c)) ≤ infoMost k c
-  unfolding infoChunk
+      → (c : InfoChunk) → length (bytes (info_chunk pool raw tracks custom info c)) ≤ info_most k c
+  unfolding info_chunk
   info-room k pool raw tracks custom info l EditedMasterId = emid-room raw info.emid l.id
   info-room k pool raw tracks custom info l Markers =
-      le_trans (marks-room n pool raw (marking info) (markersOf tracks custom info) l.texts) (mul-le-mul_left (36 + n) l.few)
+      le_trans (marks-room n pool raw (marking info) (markers_of tracks custom info) l.texts) (mul-le-mul_left (36 + n) l.few)
   info-room k pool raw tracks custom info l Artist =
-      rw (diin-text-tree) (text-room (ascii "DIAR") refl pool (artistOf info) info.text (chosen-short info _ _ l.artists.0 l.artists.1))
+      rw (diin-text_tree) (text-room (ascii "DIAR") refl pool (artist_of info) info.text (chosen-short info _ _ l.artists.0 l.artists.1))
   info-room k pool raw tracks custom info l Title =
-      rw (diin-text-tree) (text-room (ascii "DITI") refl pool (titleOf info) info.text (chosen-short info _ _ l.titles.0 l.titles.1))
+      rw (diin-text_tree) (text-room (ascii "DITI") refl pool (title_of info) info.text (chosen-short info _ _ l.titles.0 l.titles.1))

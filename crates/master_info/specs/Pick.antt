@@ -7,14 +7,14 @@ use Rattle.master_info.specs.declared.pick.ArtistTitleSource.{ArtistTitleSource}
 use Rattle.master_info.specs.declared.pick.ArtistTitleSource.TheVariants.{Album, Track, TrackThenAlbum}
 
 -- a track's text: none without a source track
-unfoldable pub ofTrack : Bool → Text → Text
-ofTrack hasSource track = cond hasSource track Absent
+unfoldable pub of_track : Bool → Text → Text
+of_track hasSource track = cond hasSource track Absent
 
-unfoldable pub firstPresent : Text → Text → Text
-firstPresent Absent b = b
-firstPresent (Given e) b = Given e
+unfoldable pub first_present : Text → Text → Text
+first_present Absent b = b
+first_present (Given e) b = Given e
 
 unfoldable pub pick : ArtistTitleSource → Bool → Text → Text → Text
 pick Album hasSource track album = album
-pick Track hasSource track album = ofTrack hasSource track
-pick TrackThenAlbum hasSource track album = firstPresent (ofTrack hasSource track) album
+pick Track hasSource track album = of_track hasSource track
+pick TrackThenAlbum hasSource track album = first_present (of_track hasSource track) album

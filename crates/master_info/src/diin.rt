@@ -3,7 +3,7 @@ ghost use Rattle.std.specs.Prelude.{◌≡◌};
 ghost use Rattle.chunk.specs.Append.{Appended};
 ghost use Rattle.tree.specs.Tree.{bytes, each};
 ghost use Rattle.markers.specs.Marker.{mark};
-ghost use Rattle.master_info.specs.Diin.{marking, chosen, emid, markersOf, infoChunk, infoChunks, diin};
+ghost use Rattle.master_info.specs.Diin.{marking, chosen, emid, markers_of, info_chunk, info_chunks, diin};
 
 use crate::pick::{ArtistTitle, ArtistTitleSource};
 use chunk::Cursor;
@@ -57,7 +57,7 @@ fn markers(
     info: Info,
 ) -> Cursor
     ensures { Appended out.old c.at
-        (bytes (each (mark pool.now raw.now (marking info)) (markersOf tracks.now custom.now info)))
+        (bytes (each (mark pool.now raw.now (marking info)) (markers_of tracks.now custom.now info)))
         out.new result.at }
 {
     let p = info.program;
@@ -98,7 +98,7 @@ fn info_chunk(
     part: InfoChunk,
 ) -> Cursor
     ensures { Appended out.old c.at
-        (bytes (infoChunk pool.now raw.now tracks.now custom.now info part))
+        (bytes (info_chunk pool.now raw.now tracks.now custom.now info part))
         out.new result.at }
 {
     match part {
@@ -142,7 +142,7 @@ fn diin_data(
     info: Info,
 ) -> Cursor
     ensures { Appended out.old c.at
-        (bytes (infoChunks pool.now raw.now tracks.now custom.now info order))
+        (bytes (info_chunks pool.now raw.now tracks.now custom.now info order))
         out.new result.at }
 {
     let mut c = c;

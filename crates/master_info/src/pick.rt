@@ -1,6 +1,6 @@
 // Whose artist and title DIIN has: the album's or the track's.
 ghost use Rattle.std.specs.Prelude.{◌≡◌};
-ghost use Rattle.master_info.specs.Pick.{ofTrack, firstPresent, pick};
+ghost use Rattle.master_info.specs.Pick.{of_track, first_present, pick};
 
 use diin_texts::diin_text::Text;
 
@@ -20,7 +20,7 @@ pub struct ArtistTitle {
 
 // A track's text: none without a source track.
 fn of_track(has_source: bool, track: Text) -> Text
-    ensures { result ≡ ofTrack has_source track }
+    ensures { result ≡ of_track has_source track }
 {
     if has_source {
         return track;
@@ -29,7 +29,7 @@ fn of_track(has_source: bool, track: Text) -> Text
 }
 
 fn first_present(a: Text, b: Text) -> Text
-    ensures { result ≡ firstPresent a b }
+    ensures { result ≡ first_present a b }
 {
     match a {
         Text::Absent => {

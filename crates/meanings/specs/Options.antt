@@ -6,9 +6,9 @@ use Rattle.build_options.specs.declared.options.Replacement.{Replacement}
 use Rattle.build_options.specs.declared.options.Replacement.TheVariants.{Nothing, Byte}
 
 -- 0 is unset, 1 on, any other off
-abbrev pub switchOf : ℕ → Switch
-switchOf number = cond (eqb number 0) Unset (cond (eqb number 1) On Off)
+abbrev pub switch_of : ℕ → Switch
+switch_of number = cond (eqb number 0) Unset (cond (eqb number 1) On Off)
 
 -- a byte, if it is given
-abbrev pub replacementOf : Bool → ℕ → Replacement
-replacementOf given byte = cond given (Byte byte) Nothing
+abbrev pub replacement_of : Bool → ℕ → Replacement
+replacement_of given byte = cond given (Byte byte) Nothing

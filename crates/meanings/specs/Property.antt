@@ -9,8 +9,8 @@ use Rattle.prop_fields.specs.declared.layout.Layout.TheVariants.{Stereo, ThreeTw
 use Rattle.prop_fields.specs.declared.start.Start.{Start}
 use Rattle.prop_fields.specs.declared.start.Start.TheVariants.{Absent, Given}
 
-abbrev pub soundOf : Bool → Sound
-soundOf dst = cond dst Dst Dsd
+abbrev pub sound_of : Bool → Sound
+sound_of dst = cond dst Dst Dsd
 
 -- 0 is stereo, 1 is 3/2, 2 is 5.1, any other is unspecified
 abbrev pub layout_of : ℕ → Layout
@@ -21,10 +21,10 @@ abbrev pub start_of : Bool → ℕ → Start
 start_of given frame = cond given (Given frame) Absent
 
 -- 0 is FS, 1 is CHNL, 2 is CMPR, 3 is ABSS, any other is LSCO
-abbrev pub propertyChunkOf : ℕ → PropertyChunk
-propertyChunkOf number =
+abbrev pub property_chunk_of : ℕ → PropertyChunk
+property_chunk_of number =
     cond (eqb number 0) SampleRate
     (cond (eqb number 1) Channels (cond (eqb number 2) CompressionType (cond (eqb number 3) AbsoluteStartTime LoudspeakerConfiguration)))
 
-abbrev pub propertyOrderOf : List ℕ → List PropertyChunk
-propertyOrderOf numbers = map propertyChunkOf numbers
+abbrev pub property_order_of : List ℕ → List PropertyChunk
+property_order_of numbers = map property_chunk_of numbers

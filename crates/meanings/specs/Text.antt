@@ -7,11 +7,11 @@ use Rattle.diin_texts.specs.declared.diin_text.Text.{Text}
 use Rattle.diin_texts.specs.declared.diin_text.Text.TheVariants.{Absent, Given}
 
 -- 0 replaces by a byte, 1 removes, any other is D2
-abbrev pub ruleOf : ℕ → ℕ → TextRule
-ruleOf number replacement = cond (eqb number 0) (Replace replacement) (cond (eqb number 1) Remove D2)
+abbrev pub rule_of : ℕ → ℕ → TextRule
+rule_of number replacement = cond (eqb number 0) (Replace replacement) (cond (eqb number 1) Remove D2)
 
-abbrev pub optionsOf : ℕ → ℕ → Bool → Bool → TextOptions
-optionsOf number replacement emptyText padCounted = record { rule = ruleOf number replacement; empty_text = emptyText; text_pad_counted = padCounted }
+abbrev pub options_of : ℕ → ℕ → Bool → Bool → TextOptions
+options_of number replacement emptyText padCounted = record { rule = rule_of number replacement; empty_text = emptyText; text_pad_counted = padCounted }
 
 -- a text, if it is given
 abbrev pub text_of : Bool → ℕ → ℕ → Text

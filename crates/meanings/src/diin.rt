@@ -1,6 +1,6 @@
 // The numbers of DIIN.
 ghost use Rattle.std.specs.Prelude.{◌≡◌};
-ghost use Rattle.meanings.specs.Diin.{givenText, source_of, infoChunkOf, infoOrderOf};
+ghost use Rattle.meanings.specs.Diin.{given_text, source_of, info_chunk_of, info_order_of};
 
 use chunk_names::InfoChunk;
 use diin_texts::diin_text::Text;
@@ -8,7 +8,7 @@ use master_info::pick::ArtistTitleSource;
 
 // A text of three words: whether it is given (0: no), start, length.
 pub fn given_text(words: [u32; 3]) -> Text
-    ensures { result ≡ givenText words }
+    ensures { result ≡ given_text words }
 {
     crate::text::text(words[0] != 0, words[1], words[2])
 }
@@ -28,7 +28,7 @@ pub fn artist_title_source(number: u8) -> ArtistTitleSource
 
 // 0 is EMID, 1 all MARK, 2 is DIAR, any other is DITI.
 pub fn info_chunk(number: u8) -> InfoChunk
-    ensures { result ≡ infoChunkOf number }
+    ensures { result ≡ info_chunk_of number }
 {
     if number == 0 {
         return InfoChunk::EditedMasterId;
@@ -43,7 +43,7 @@ pub fn info_chunk(number: u8) -> InfoChunk
 }
 
 pub fn info_order(numbers: [u8; 4]) -> [InfoChunk; 4]
-    ensures { result ≡ infoOrderOf numbers }
+    ensures { result ≡ info_order_of numbers }
 {
     [
         info_chunk(numbers[0]),

@@ -1,12 +1,12 @@
 // The numbers of the local chunks.
 ghost use Rattle.std.specs.Prelude.{◌≡◌};
-ghost use Rattle.meanings.specs.Local.{localChunkOf};
+ghost use Rattle.meanings.specs.Local.{local_chunk_of};
 
 use chunk_names::LocalChunk;
 
 // 0 is PROP, 1 the sound, 2 is DSTI, 3 is DIIN, any other is COMT.
 pub fn local_chunk(number: u8) -> LocalChunk
-    ensures { result ≡ localChunkOf number }
+    ensures { result ≡ local_chunk_of number }
 {
     if number == 0 {
         return LocalChunk::Property;

@@ -1,6 +1,6 @@
 // The numbers of PROP.
 ghost use Rattle.std.specs.Prelude.{◌≡◌};
-ghost use Rattle.meanings.specs.Property.{soundOf, layout_of, start_of, propertyChunkOf, propertyOrderOf};
+ghost use Rattle.meanings.specs.Property.{sound_of, layout_of, start_of, property_chunk_of, property_order_of};
 
 use chunk_names::PropertyChunk;
 use prop_fields::compression::Sound;
@@ -8,7 +8,7 @@ use prop_fields::layout::Layout;
 use prop_fields::start::Start;
 
 pub fn sound(dst: bool) -> Sound
-    ensures { result ≡ soundOf dst }
+    ensures { result ≡ sound_of dst }
 {
     if dst {
         return Sound::Dst;
@@ -44,7 +44,7 @@ pub fn start(given: bool, frame: u32) -> Start
 
 // 0 is FS, 1 is CHNL, 2 is CMPR, 3 is ABSS, any other is LSCO.
 pub fn property_chunk(number: u8) -> PropertyChunk
-    ensures { result ≡ propertyChunkOf number }
+    ensures { result ≡ property_chunk_of number }
 {
     if number == 0 {
         return PropertyChunk::SampleRate;
@@ -62,7 +62,7 @@ pub fn property_chunk(number: u8) -> PropertyChunk
 }
 
 pub fn property_order(numbers: [u8; 5]) -> [PropertyChunk; 5]
-    ensures { result ≡ propertyOrderOf numbers }
+    ensures { result ≡ property_order_of numbers }
 {
     [
         property_chunk(numbers[0]),

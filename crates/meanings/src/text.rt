@@ -1,6 +1,6 @@
 // The numbers of texts.
 ghost use Rattle.std.specs.Prelude.{◌≡◌};
-ghost use Rattle.meanings.specs.Text.{ruleOf, optionsOf, text_of};
+ghost use Rattle.meanings.specs.Text.{rule_of, options_of, text_of};
 
 use diin_texts::diin_text::Text;
 use texts::extent::Extent;
@@ -8,7 +8,7 @@ use texts::text::{TextOptions, TextRule};
 
 // 0 replaces by a byte, 1 removes, any other is D2.
 pub fn rule(number: u8, replacement: u8) -> TextRule
-    ensures { result ≡ ruleOf number replacement }
+    ensures { result ≡ rule_of number replacement }
 {
     if number == 0 {
         return TextRule::Replace(replacement);
@@ -25,7 +25,7 @@ pub fn options(
     empty_text: bool,
     text_pad_counted: bool,
 ) -> TextOptions
-    ensures { result ≡ optionsOf rule_number replacement empty_text text_pad_counted }
+    ensures { result ≡ options_of rule_number replacement empty_text text_pad_counted }
 {
     TextOptions {
         rule: rule(rule_number, replacement),

@@ -14,7 +14,7 @@ use Rattle.tree.specs.Gather.{window}
 use Rattle.refusal.specs.declared.verdict.Verdict.{Verdict}
 use Rattle.refusal.specs.declared.verdict.Verdict.TheVariants.{Accepted, Refused}
 use Rattle.read_answer.specs.declared.answer.ReadAnswer.TheVariants as answer
-use Rattle.file_read.specs.Read.{Request, fileWith, Reading, Reads, readVerdict}
+use Rattle.file_read.specs.Read.{Request, file_with, Reading, Reads, read_verdict}
 
 -- of bytes that are stored over the front of a buffer, those that fit are its front
 front_fits : (out s : List ℕ) → length s ≤ length out → take (length s) (overlay out 0 s) ≡ s
@@ -53,11 +53,11 @@ shown-window file offset out = rw (← length-drop offset file) (front out (drop
 
 -- an accepted read: how many bytes it filled, and its buffer
 pub record Filled (q : Request) (out last : List ℕ) (count : ℕ) : Type 0 where
-  pub many : count ≡ min (length out) (length (fileWith q (length out)) - q.offset)
-  pub buffer : last ≡ shown (fileWith q (length out)) (record { at = 0; skip = q.offset }) out
+  pub many : count ≡ min (length out) (length (file_with q (length out)) - q.offset)
+  pub buffer : last ≡ shown (file_with q (length out)) (record { at = 0; skip = q.offset }) out
 
 pub filled : (q : Request) {out last : List ℕ} {count : ℕ} → Reads q out last (answer.Filled count) → Filled q out last count
-filled q {out} {last} {count} p = by (readVerdict q (length out)) p
+filled q {out} {last} {count} p = by (read_verdict q (length out)) p
   where
     by : (v : Verdict) → Reading v q out last (answer.Filled count) → Filled q out last count
     by Accepted r = record { many = cc r.answer; buffer = r.buffer }

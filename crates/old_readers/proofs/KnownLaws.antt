@@ -4,17 +4,17 @@ use mathlib.Core.Bool.{Bool}
 use mathlib.Core.List.{List, [], ◌∷◌, map}
 use Prim.Native.Nat.{ℕ}
 use lib.ListN.{length, replicate, length-map, length-replicate}
-use Rattle.dst.specs.Frame.{Frame, frameBytes, dsdSound}
+use Rattle.dst.specs.Frame.{Frame, frame_bytes, dsd_sound}
 use Rattle.dst.specs.Unit.{lengths, sizes}
 use Rattle.prop_fields.specs.declared.compression.Sound.{Sound}
 use Rattle.prop_fields.specs.declared.compression.Sound.TheVariants.{Dsd, Dst}
 use Rattle.sound_reads.specs.declared.place.Positions.{Positions}
 use Rattle.sound_reads.specs.Positions.{between}
 use Rattle.sound_reads.specs.Lent.{needed_at, Plain}
-use Rattle.build_options.specs.Area.{areaPositions}
+use Rattle.build_options.specs.Area.{area_positions}
 use Rattle.file_tree.specs.Sound.{Fits}
-use Rattle.read_rules.specs.Format.{unitSizes}
-use Rattle.file_read.specs.Read.{Request, neededFor}
+use Rattle.read_rules.specs.Format.{unit_sizes}
+use Rattle.file_read.specs.Read.{Request, needed_for}
 use Rattle.file_read.proofs.PieceLaws.{behind, needed-behind}
 use Rattle.old_readers.specs.Premises.{AcceptedBuild, Recorded, Lent, Told, WasGiven}
 
@@ -29,35 +29,35 @@ pub record DstRead (fs : List Frame) (q : Request) (room : ℕ) : Type 0 where
 pub record DsdRead (xs : List (List ℕ)) (q : Request) (room : ℕ) : Type 0 where
   pub kind : q.format.sound ≡ Dsd
   pub told : q.format.positions ≡ length xs
-  pub even : map (λ (c : List ℕ). length c) xs ≡ replicate (length xs) (frameBytes q.format.channels)
-  pub lent : q.contents ≡ dsdSound (between (neededFor q room) xs)
+  pub even : map (λ (c : List ℕ). length c) xs ≡ replicate (length xs) (frame_bytes q.format.channels)
+  pub lent : q.contents ≡ dsd_sound (between (needed_for q room) xs)
 
-abbrev pub contentsOf : List Frame → List (List ℕ)
-contentsOf fs = map (λ (f : Frame). f.content) fs
+abbrev pub contents_of : List Frame → List (List ℕ)
+contents_of fs = map (λ (f : Frame). f.content) fs
 
 -- of frames
 abbrev pub ReadOf : Sound → List Frame → Request → ℕ → Type 0
-ReadOf Dsd fs q room = DsdRead (contentsOf fs) q room
+ReadOf Dsd fs q room = DsdRead (contents_of fs) q room
 ReadOf Dst fs q room = DstRead fs q room
 
 -- the positions that it needs, behind the header, by the units of the frames
 module _ (q : Request) (out : List ℕ) where
-  needed_of : (ss : List ℕ) → unitSizes q.format q.lengths ≡ ss → neededFor q (length out) ≡ needed_at ss (behind q out) out
+  needed_of : (ss : List ℕ) → unit_sizes q.format q.lengths ≡ ss → needed_for q (length out) ≡ needed_at ss (behind q out) out
   needed_of ss e = sym (needed-behind q out) ∙ ap (λ (l : List ℕ). needed_at l (behind q out) out) e
 
-  abbrev pub dstNeeds : List Frame → Positions
-  dstNeeds fs = needed_at (sizes q.format.crc (lengths fs)) (behind q out) out
+  abbrev pub dst_needs : List Frame → Positions
+  dst_needs fs = needed_at (sizes q.format.crc (lengths fs)) (behind q out) out
 
-  pub dst-needs : (fs : List Frame) → DstRead fs q (length out) → neededFor q (length out) ≡ dstNeeds fs
+  pub dst-needs : (fs : List Frame) → DstRead fs q (length out) → needed_for q (length out) ≡ dst_needs fs
   dst-needs fs r = needed_of _ (rw (r.kind, r.told))
 
-  abbrev pub dsdNeeds : List (List ℕ) → Positions
-  dsdNeeds xs = needed_at (replicate (length xs) (frameBytes q.format.channels)) (behind q out) out
+  abbrev pub dsd_needs : List (List ℕ) → Positions
+  dsd_needs xs = needed_at (replicate (length xs) (frame_bytes q.format.channels)) (behind q out) out
 
-  pub dsd-needs : (xs : List (List ℕ)) → DsdRead xs q (length out) → neededFor q (length out) ≡ dsdNeeds xs
+  pub dsd-needs : (xs : List (List ℕ)) → DsdRead xs q (length out) → needed_for q (length out) ≡ dsd_needs xs
   dsd-needs xs r = needed_of _ (rw (r.kind, r.told))
 
-map-lengths : (fs : List Frame) → map (λ (c : List ℕ). length c) (contentsOf fs) ≡ map (λ (f : Frame). length f.content) fs
+map-lengths : (fs : List Frame) → map (λ (c : List ℕ). length c) (contents_of fs) ≡ map (λ (f : Frame). length f.content) fs
 map-lengths [] = refl
 map-lengths (f ∷ fs) = ap (λ (l : List ℕ). length f.content ∷ l) (map-lengths fs)
 
@@ -71,9 +71,9 @@ module _ (b : AcceptedBuild) (fs : List Frame) (recorded : Recorded b.inputs fs)
     lent = subst (λ (c : Bool). Lent Dst c fs q room) (sym given.crc) lent;
   }
   by-sound Dsd e many lent fits =
-      let count = areaPositions b.inputs.area in
-      let all : map (λ (c : List ℕ). length c) (contentsOf fs) ≡ replicate count (frameBytes b.inputs.area.channels) = map-lengths fs ∙ fits in
-      let n : length (contentsOf fs) ≡ count = sym (length-map (contentsOf fs) (λ (c : List ℕ). length c)) ∙ ap length all ∙ length-replicate count _ in
+      let count = area_positions b.inputs.area in
+      let all : map (λ (c : List ℕ). length c) (contents_of fs) ≡ replicate count (frame_bytes b.inputs.area.channels) = map-lengths fs ∙ fits in
+      let n : length (contents_of fs) ≡ count = sym (length-map (contents_of fs) (λ (c : List ℕ). length c)) ∙ ap length all ∙ length-replicate count _ in
       record { kind = given.kind ∙ e; told = many ∙ sym n; even = rw (given.channels, n) all; lent = lent }
 
   pub read_of : ReadOf b.inputs.area.sound fs q room

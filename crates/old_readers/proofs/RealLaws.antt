@@ -8,7 +8,7 @@ use lib.ListN.{length}
 use Rattle.window.specs.declared.window.Window.{Window}
 use Rattle.window.specs.Window.{shown, after, Wrote}
 use Rattle.window.proofs.WindowLaws.{◌then◌, before}
-use Rattle.dst.specs.Frame.{Frame, frameBytes, plainBytes, dsdSound}
+use Rattle.dst.specs.Frame.{Frame, frame_bytes, plain_bytes, dsd_sound}
 use Rattle.dst.specs.Unit.{sound, lengths}
 use Rattle.prop_fields.specs.declared.compression.Sound.{Sound}
 use Rattle.prop_fields.specs.declared.compression.Sound.TheVariants.{Dsd, Dst}
@@ -16,17 +16,17 @@ use Rattle.sound_reads.specs.declared.lent.Fill.{Fill}
 use Rattle.sound_reads.specs.declared.lent.Fill.TheVariants as fill
 use Rattle.sound_reads.specs.Positions.{between}
 use Rattle.sound_reads.specs.Fill.{Filling}
-use Rattle.sound_reads.specs.Lent.{framesWith, contentsWith, codes, contents}
+use Rattle.sound_reads.specs.Lent.{frames_with, contents_with, codes, contents}
 use Rattle.dst_reads.proofs.RealLaws.{same-sound}
 use Rattle.dsd_reads.proofs.RealLaws.{same-sound-dsd}
 use Rattle.build_options.specs.Inputs.{Inputs}
-use Rattle.file_tree.specs.Sound.{soundBytes}
-use Rattle.file_read.specs.Lent.{soundWith}
-use Rattle.file_read.specs.Read.{Request, neededFor, fileWith}
+use Rattle.file_tree.specs.Sound.{sound_bytes}
+use Rattle.file_read.specs.Lent.{sound_with}
+use Rattle.file_read.specs.Read.{Request, needed_for, file_with}
 use Rattle.file_read.proofs.PieceLaws.{begin, behind}
 use Rattle.old_readers.specs.Premises.{AcceptedBuild, Recorded, WasGiven}
-use Rattle.old_readers.specs.OldReaders.{fileBytes}
-use Rattle.old_readers.proofs.KnownLaws.{DstRead, DsdRead, contentsOf, ReadOf, dstNeeds, dst-needs, dsdNeeds, dsd-needs, read_of}
+use Rattle.old_readers.specs.OldReaders.{file_bytes}
+use Rattle.old_readers.proofs.KnownLaws.{DstRead, DsdRead, contents_of, ReadOf, dst_needs, dst-needs, dsd_needs, dsd-needs, read_of}
 
 -- two files of one header and one trailer, of whose sounds a read shows the same
 pub record Same (f g : List ℕ) (offset : ℕ) (out : List ℕ) : Type 0 where
@@ -43,9 +43,9 @@ module _ (q : Request) (out : List ℕ) where
   abbrev SoundShown : List ℕ → List ℕ → Fill → Type 0
   SoundShown s last r = Filling true s (behind q out) out last r
 
-  same-files : (s t : List ℕ) → ((last : List ℕ) (r : Fill) → SoundShown s last r → SoundShown t last r)
+  same_files : (s t : List ℕ) → ((last : List ℕ) (r : Fill) → SoundShown s last r → SoundShown t last r)
       → Same (q.header ++ s ++ q.trailer) (q.header ++ t ++ q.trailer) q.offset out
-  same-files s t e =
+  same_files s t e =
       let w = behind q out in
       let mid = shown s w out in
       let v = after (length s) (length out) w in
@@ -69,35 +69,35 @@ module _ (q : Request) (out : List ℕ) where
       }
 
   -- the sound that the read knows of
-  abbrev knownSound : List ℕ
-  knownSound = soundWith q.format q.lengths (neededFor q (length out)) q.frames q.contents
+  abbrev known_sound : List ℕ
+  known_sound = sound_with q.format q.lengths (needed_for q (length out)) q.frames q.contents
 
   -- DST: the sound with the lent frames shows what the sound of all frames shows
-  dst-sound : (fs : List Frame) → DstRead fs q (length out) → (last : List ℕ) (r : Fill) → SoundShown knownSound last r
+  dst-sound : (fs : List Frame) → DstRead fs q (length out) → (last : List ℕ) (r : Fill) → SoundShown known_sound last r
       → SoundShown (sound q.format.crc fs) last r
   dst-sound fs known last r p =
       let crc = q.format.crc in
-      let needs = dstNeeds q out fs in
-      let n = plainBytes crc q.format.channels in
-      let given : knownSound ≡ sound crc (framesWith n needs (lengths fs) (codes (between needs fs)) (contents crc (between needs fs))) =
+      let needs = dst_needs q out fs in
+      let n = plain_bytes crc q.format.channels in
+      let given : known_sound ≡ sound crc (frames_with n needs (lengths fs) (codes (between needs fs)) (contents crc (between needs fs))) =
       rw (known.lent.0, known.lent.1, dst-needs q out fs known, known.kind, known.told) in
       same-sound crc q.format.channels fs known.plain (behind q out) out (rw given at p)
 
   -- DSD: the same of the contents
-  dsd-sound : (xs : List (List ℕ)) → DsdRead xs q (length out) → (last : List ℕ) (r : Fill) → SoundShown knownSound last r
-      → SoundShown (dsdSound xs) last r
+  dsd-sound : (xs : List (List ℕ)) → DsdRead xs q (length out) → (last : List ℕ) (r : Fill) → SoundShown known_sound last r
+      → SoundShown (dsd_sound xs) last r
   dsd-sound xs known last r p =
-      let needs = dsdNeeds q out xs in
-      let given : knownSound ≡ dsdSound (contentsWith (frameBytes q.format.channels) needs (length xs) (dsdSound (between needs xs))) =
+      let needs = dsd_needs q out xs in
+      let given : known_sound ≡ dsd_sound (contents_with (frame_bytes q.format.channels) needs (length xs) (dsd_sound (between needs xs))) =
       rw (known.lent, dsd-needs q out xs known, known.kind, known.told) in
       same-sound-dsd q.format.channels xs known.even (behind q out) out (rw given at p)
 
   -- of either kind
-  sound-same : (s : Sound) (fs : List Frame) → ReadOf s fs q (length out) → (last : List ℕ) (r : Fill) → SoundShown knownSound last r
-      → SoundShown (soundBytes s q.format.crc fs) last r
-  unfolding soundBytes
+  sound-same : (s : Sound) (fs : List Frame) → ReadOf s fs q (length out) → (last : List ℕ) (r : Fill) → SoundShown known_sound last r
+      → SoundShown (sound_bytes s q.format.crc fs) last r
+  unfolding sound_bytes
   sound-same Dst fs known = dst-sound fs known
-  sound-same Dsd fs known = dsd-sound (contentsOf fs) known
+  sound-same Dsd fs known = dsd-sound (contents_of fs) known
 
 -- a read of a build's file
 module _ (b : AcceptedBuild) (fs : List Frame) (recorded : Recorded b.inputs fs) (q : Request) (out : List ℕ) (given : WasGiven b fs q (length out)) where
@@ -105,10 +105,10 @@ module _ (b : AcceptedBuild) (fs : List Frame) (recorded : Recorded b.inputs fs)
   x = b.inputs
 
   -- the file that the read knows of shows what the build's file shows
-  pub same-file : Same (fileWith q (length out)) (fileBytes b fs) q.offset out
+  pub same-file : Same (file_with q (length out)) (file_bytes b fs) q.offset out
   same-file =
-      let s = soundBytes x.area.sound q.format.crc fs in
-      let file : q.header ++ s ++ q.trailer ≡ fileBytes b fs =
+      let s = sound_bytes x.area.sound q.format.crc fs in
+      let file : q.header ++ s ++ q.trailer ≡ file_bytes b fs =
       rw (given.header, given.trailer, given.crc) in
       rw (← file)
-      (same-files q out _ s (sound-same q out x.area.sound fs (read_of b fs recorded q (length out) given)))
+      (same_files q out _ s (sound-same q out x.area.sound fs (read_of b fs recorded q (length out) given)))

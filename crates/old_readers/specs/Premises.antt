@@ -3,31 +3,31 @@
 -- Assumes nothing.
 use Rattle.std.specs.Prelude.{◌≡◌, Bool, List, [], ◌∷◌, map, ℕ, length, take}
 use Rattle.tree.specs.Gather.{Read, refused, accepted}
-use Rattle.dst.specs.Frame.{Frame, dsdSound}
+use Rattle.dst.specs.Frame.{Frame, dsd_sound}
 use Rattle.prop_fields.specs.declared.compression.Sound.{Sound}
 use Rattle.prop_fields.specs.declared.compression.Sound.TheVariants.{Dsd, Dst}
 use Rattle.sound_reads.specs.Positions.{between}
 use Rattle.sound_reads.specs.Lent.{codes, contents, Plain}
-use Rattle.build_options.specs.Area.{areaPositions}
+use Rattle.build_options.specs.Area.{area_positions}
 use Rattle.build_options.specs.Inputs.{Inputs}
 use Rattle.file_tree.specs.Sound.{Fits}
 use Rattle.build_answer.specs.declared.answer.Answer.TheVariants.{Built}
 use Rattle.assemble.specs.Build.{Builds}
 use Rattle.read_answer.specs.declared.answer.ReadAnswer.{ReadAnswer}
 use Rattle.read_answer.specs.declared.answer.ReadAnswer.TheVariants as answer
-use Rattle.file_read.specs.Read.{Request, neededFor, Reads}
+use Rattle.file_read.specs.Read.{Request, needed_for, Reads}
 
 -- an accepted build: what it was given, what its two buffers held before and after, and the lengths that it answered, with all that a build promises
 pub record AcceptedBuild : Type 0 where
   pub inputs : Inputs
-  pub headerBefore : List ℕ
-  pub headerBuffer : List ℕ
-  pub trailerBefore : List ℕ
-  pub trailerBuffer : List ℕ
-  pub headerLength : ℕ
-  pub soundLength : ℕ
-  pub trailerLength : ℕ
-  pub promise : Builds inputs headerBefore headerBuffer trailerBefore trailerBuffer (Built headerLength soundLength trailerLength)
+  pub header_before : List ℕ
+  pub header_buffer : List ℕ
+  pub trailer_before : List ℕ
+  pub trailer_buffer : List ℕ
+  pub header_length : ℕ
+  pub sound_length : ℕ
+  pub trailer_length : ℕ
+  pub promise : Builds inputs header_before header_buffer trailer_before trailer_buffer (Built header_length sound_length trailer_length)
 
 -- a call of `read`: what it was given, what its buffer held before and after, and its answer, with all that a read promises
 pub record Call : Type 0 where
@@ -45,12 +45,12 @@ pub record Recorded (x : Inputs) (fs : List Frame) : Type 0 where
 
 -- of these frames a read was lent those that it needs: of DSD their contents joined, of DST their DST bytes joined and, with CRC on, their contents joined
 abbrev pub Lent : Sound → Bool → List Frame → Request → ℕ → Type 0
-Lent Dsd crc fs q room = q.contents ≡ dsdSound (between (neededFor q room) (map (λ (f : Frame). f.content) fs))
-Lent Dst crc fs q room = (q.frames ≡ codes (between (neededFor q room) fs)) × (q.contents ≡ contents crc (between (neededFor q room) fs))
+Lent Dsd crc fs q room = q.contents ≡ dsd_sound (between (needed_for q room) (map (λ (f : Frame). f.content) fs))
+Lent Dst crc fs q room = (q.frames ≡ codes (between (needed_for q room) fs)) × (q.contents ≡ contents crc (between (needed_for q room) fs))
 
 -- a read was told the build's lengths; of DSD, its number of positions
 abbrev pub Told : Sound → Inputs → Request → Type 0
-Told Dsd x q = q.format.positions ≡ areaPositions x.area
+Told Dsd x q = q.format.positions ≡ area_positions x.area
 Told Dst x q = q.lengths ≡ x.lengths
 
 -- a read of `room` bytes was given what the build was given and made, and lent the needed frames
@@ -59,8 +59,8 @@ pub record WasGiven (b : AcceptedBuild) (fs : List Frame) (q : Request) (room : 
   pub crc : q.format.crc ≡ b.inputs.options.dst_crc
   pub channels : q.format.channels ≡ b.inputs.area.channels
   pub lengths : Told b.inputs.area.sound b.inputs q
-  pub header : q.header ≡ take b.headerLength b.headerBuffer
-  pub trailer : q.trailer ≡ take b.trailerLength b.trailerBuffer
+  pub header : q.header ≡ take b.header_length b.header_buffer
+  pub trailer : q.trailer ≡ take b.trailer_length b.trailer_buffer
   pub frames : Lent b.inputs.area.sound b.inputs.options.dst_crc fs q room
 
 -- if it was accepted; of a refused read nothing is assumed

@@ -5,7 +5,7 @@ ghost use Rattle.chunk.specs.Append.{Appended};
 ghost use Rattle.chunk.specs.Number.{be};
 ghost use Rattle.chunk_names.specs.Name.{Name, ascii};
 ghost use Rattle.tree.specs.Tree.{bytes};
-ghost use Rattle.prop.specs.Property.{lscoIsOn, id_of, contentOf, isPropertyWritten, propertyChunk, propertyChunks, property};
+ghost use Rattle.prop.specs.Property.{lsco_is_on, id_of, content_of, is_property_written, property_chunk, property_chunks, property};
 
 use chunk::Cursor;
 use chunk_names::PropertyChunk;
@@ -30,7 +30,7 @@ pub struct Properties {
 
 // Whether LSCO is written.
 fn lsco_is_on(p: Properties) -> bool
-    ensures { result ≡ lscoIsOn p }
+    ensures { result ≡ lsco_is_on p }
 {
     let layout = p.layout;
     match layout {
@@ -72,7 +72,7 @@ fn id(part: PropertyChunk) -> [u8; 4]
 }
 
 fn is_written(p: Properties, part: PropertyChunk) -> bool
-    ensures { result ≡ isPropertyWritten p part }
+    ensures { result ≡ is_property_written p part }
 {
     match part {
         PropertyChunk::SampleRate => {
@@ -111,7 +111,7 @@ fn chnl_data(c: Cursor, out: &mut [u8], count: u16, names: [[u8; 4]; 6]) -> Curs
 
 // The data of a chunk of PROP.
 fn content(c: Cursor, out: &mut [u8], p: Properties, part: PropertyChunk) -> Cursor
-    ensures { Appended out.old c.at (contentOf p part) out.new result.at }
+    ensures { Appended out.old c.at (content_of p part) out.new result.at }
 {
     match part {
         PropertyChunk::SampleRate => {
@@ -146,7 +146,7 @@ fn content(c: Cursor, out: &mut [u8], p: Properties, part: PropertyChunk) -> Cur
 
 // A chunk of PROP, if it is written.
 fn property_chunk(c: Cursor, out: &mut [u8], p: Properties, part: PropertyChunk) -> Cursor
-    ensures { Appended out.old c.at (bytes (propertyChunk p part)) out.new result.at }
+    ensures { Appended out.old c.at (bytes (property_chunk p part)) out.new result.at }
 {
     if !is_written(p, part) {
         return c;
@@ -159,7 +159,7 @@ fn property_chunk(c: Cursor, out: &mut [u8], p: Properties, part: PropertyChunk)
 
 // The data of PROP: its form, and its chunks in their order.
 fn property_data(c: Cursor, out: &mut [u8], order: [PropertyChunk; 5], p: Properties) -> Cursor
-    ensures { Appended out.old c.at (ascii "SND " ++ bytes (propertyChunks order p)) out.new result.at }
+    ensures { Appended out.old c.at (ascii "SND " ++ bytes (property_chunks order p)) out.new result.at }
 {
     let mut c = c.name(out, *b"SND ");
     let mut i = 0;

@@ -9,7 +9,7 @@ use Rattle.chunk.specs.Number.{be}
 use Rattle.chunk_names.specs.Name.{Name}
 use Rattle.chunk.specs.Chunk.{pad, counts}
 use Rattle.chunk.proofs.ChunkLaws.{length-counts}
-use Rattle.prop_fields.specs.Compression.{compressionData}
+use Rattle.prop_fields.specs.Compression.{compression_data}
 
 -- a compression type, as it is written
 module _ (kind : Name) (name : List ℕ) where
@@ -17,12 +17,12 @@ module _ (kind : Name) (name : List ℕ) where
   unfolding counts be
   compression-plain = append_assoc kind (length name % 256 ∷ []) name
 
-  pub compression-d1 : length kind ≡ 4 → kind ++ (length name % 256 ∷ []) ++ name ++ pad (5 + length name) ≡ compressionData kind name true
-  unfolding compressionData
-  compression-d1 four =
+  pub compression_d1 : length kind ≡ 4 → kind ++ (length name % 256 ∷ []) ++ name ++ pad (5 + length name) ≡ compression_data kind name true
+  unfolding compression_data
+  compression_d1 four =
       let long : length (counts 1 kind name) ≡ 5 + length name = omega (arith, length-counts 1 kind name) in
       rw (compression-plain, long)
 
-  pub compression-no-d1 : kind ++ (length name % 256 ∷ []) ++ name ≡ compressionData kind name false
-  unfolding compressionData
-  compression-no-d1 = compression-plain ∙ sym (append-nil (counts 1 kind name))
+  pub compression_no_d1 : kind ++ (length name % 256 ∷ []) ++ name ≡ compression_data kind name false
+  unfolding compression_data
+  compression_no_d1 = compression-plain ∙ sym (append-nil (counts 1 kind name))

@@ -6,7 +6,7 @@ use native.Mathlib.Omega.{arith}
 use lib.ListN.{length, get_or, take, drop_of_length-le}
 use lib.Seq.{drop-cons}
 use Rattle.chunk_names.specs.Name.{Name}
-use Rattle.prop_fields.specs.Layout.{numbersOf, channelName, channelCount, sixNames, channelNames}
+use Rattle.prop_fields.specs.Layout.{numbers_of, channel_name, channel_count, six_names, channel_names}
 use Rattle.prop_fields.specs.declared.layout.Layout.{Layout}
 use Rattle.prop_fields.specs.declared.layout.Layout.TheVariants.{Stereo, ThreeTwo, FivePointOne, Unspecified}
 use Rattle.prop_fields.specs.declared.layout.ChannelNumbers.{ChannelNumbers}
@@ -25,28 +25,28 @@ six l h =
     )
 
 -- the names of six numbers, name by name
-pub six-names : (l : List ℕ) {a b c d e f : Name} → length l ≡ 6
-    → a ≡ channelName (get_or l 0 0) → b ≡ channelName (get_or l 1 0) → c ≡ channelName (get_or l 2 0) → d ≡ channelName (get_or l 3 0)
-    → e ≡ channelName (get_or l 4 0) → f ≡ channelName (get_or l 5 0) → a ∷ b ∷ c ∷ d ∷ e ∷ f ∷ [] ≡ map channelName l
-six-names l h a b c d e f = rw (a, b, c, d, e, f) (sym (ap (map channelName) (six l h)))
+pub six_names_lem : (l : List ℕ) {a b c d e f : Name} → length l ≡ 6
+    → a ≡ channel_name (get_or l 0 0) → b ≡ channel_name (get_or l 1 0) → c ≡ channel_name (get_or l 2 0) → d ≡ channel_name (get_or l 3 0)
+    → e ≡ channel_name (get_or l 4 0) → f ≡ channel_name (get_or l 5 0) → a ∷ b ∷ c ∷ d ∷ e ∷ f ∷ [] ≡ map channel_name l
+six_names_lem l h a b c d e f = rw (a, b, c, d, e, f) (sym (ap (map channel_name) (six l h)))
 
-pub channels-few : (layout : Layout) (channels : ℕ) → channelCount layout channels ≤ 6
-unfolding channelCount
+pub channels-few : (layout : Layout) (channels : ℕ) → channel_count layout channels ≤ 6
+unfolding channel_count
 channels-few Stereo channels = omega arith
 channels-few ThreeTwo channels = omega arith
 channels-few FivePointOne channels = omega arith
 channels-few Unspecified channels = omega arith
 
 -- a name has four bytes
-four-each : (k : ℕ) (l : List ℕ) → length (flat_map (λ (name : Name). name) (take k (map channelName l))) ≤ 4 * k
-unfolding flat_map channelName
-four-each zero l = omega arith
-four-each (suc k) [] = omega arith
-four-each (suc k) (n ∷ l) = omega (arith, four-each k l)
+four_each : (k : ℕ) (l : List ℕ) → length (flat_map (λ (name : Name). name) (take k (map channel_name l))) ≤ 4 * k
+unfolding flat_map channel_name
+four_each zero l = omega arith
+four_each (suc k) [] = omega arith
+four_each (suc k) (n ∷ l) = omega (arith, four_each k l)
 
-pub names-short : (layout : Layout) (channels : ℕ) (n : ChannelNumbers) → length (flat_map (λ (name : Name). name) (channelNames layout channels n)) ≤ 24
-unfolding channelNames channelCount sixNames flat_map
-names-short Stereo channels n = omega arith
-names-short ThreeTwo channels n = omega arith
-names-short FivePointOne channels n = omega arith
-names-short Unspecified channels n = omega (arith, four-each (min channels 6) (numbersOf n))
+pub names_short : (layout : Layout) (channels : ℕ) (n : ChannelNumbers) → length (flat_map (λ (name : Name). name) (channel_names layout channels n)) ≤ 24
+unfolding channel_names channel_count six_names flat_map
+names_short Stereo channels n = omega arith
+names_short ThreeTwo channels n = omega arith
+names_short FivePointOne channels n = omega arith
+names_short Unspecified channels n = omega (arith, four_each (min channels 6) (numbers_of n))

@@ -7,9 +7,9 @@ use Rattle.prop_fields.specs.declared.compression.Sound.{Sound}
 use Rattle.prop_fields.specs.declared.compression.Sound.TheVariants.{Dsd, Dst}
 
 -- a compression type with its name, and under D1 with the pad
-unfoldable pub compressionData : Name → List ℕ → Bool → List ℕ
-compressionData kind name d1 = let plain = counts 1 kind name in plain ++ cond d1 (pad (length plain)) []
+unfoldable pub compression_data : Name → List ℕ → Bool → List ℕ
+compression_data kind name d1 = let plain = counts 1 kind name in plain ++ cond d1 (pad (length plain)) []
 
-unfoldable pub cmprData : Sound → Bool → List ℕ
-cmprData Dsd d1 = compressionData (ascii "DSD ") (ascii "not compressed") d1
-cmprData Dst d1 = compressionData (ascii "DST ") (ascii "DST Encoded") d1
+unfoldable pub cmpr_data : Sound → Bool → List ℕ
+cmpr_data Dsd d1 = compression_data (ascii "DSD ") (ascii "not compressed") d1
+cmpr_data Dst d1 = compression_data (ascii "DST ") (ascii "DST Encoded") d1

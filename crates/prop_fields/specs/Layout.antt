@@ -1,48 +1,48 @@
 -- The channels' names and the speaker code (01: "Names: SLFT SRGT; MLFT MRGT "C   " "LS  " "RS  "; MLFT MRGT "C   " "LFE " "LS  " "RS  "; unspecified: C and
 -- three digits, by default 000 upward. LSCO is 0, 3, 4; unspecified 65,535"). Assumes nothing.
 use Rattle.std.specs.Prelude.{ℕ, ◌+◌, ◌/◌, ◌%◌, min, cond, List, [], ◌∷◌, ◌++◌, map, take, replicate}
-use Rattle.chunk_names.specs.Name.{Name, ascii, stereo, threeTwo, fivePointOne}
+use Rattle.chunk_names.specs.Name.{Name, ascii, stereo, three_two, five_point_one}
 use Rattle.prop_fields.specs.declared.layout.Layout.{Layout}
 use Rattle.prop_fields.specs.declared.layout.Layout.TheVariants.{Stereo, ThreeTwo, FivePointOne, Unspecified}
 use Rattle.prop_fields.specs.declared.layout.ChannelNumbers.{ChannelNumbers}
 
 -- the numbers of an unspecified layout's channels, by default 0 upward
-unfoldable pub numbersOf : ChannelNumbers → List ℕ
-numbersOf n = cond n.given n.numbers (0 ∷ 1 ∷ 2 ∷ 3 ∷ 4 ∷ 5 ∷ [])
+unfoldable pub numbers_of : ChannelNumbers → List ℕ
+numbers_of n = cond n.given n.numbers (0 ∷ 1 ∷ 2 ∷ 3 ∷ 4 ∷ 5 ∷ [])
 
 -- the last decimal digit
 unfoldable pub digit : ℕ → ℕ
 digit n = 0x30 + n % 10
 
 -- C and three digits; of a number above 999, the last three
-unfoldable pub channelName : ℕ → Name
-channelName n = ascii "C" ++ (digit (n / 100) ∷ digit (n / 10) ∷ digit n ∷ [])
+unfoldable pub channel_name : ℕ → Name
+channel_name n = ascii "C" ++ (digit (n / 100) ∷ digit (n / 10) ∷ digit n ∷ [])
 
 -- how many channels a layout names; an unspecified one at most six
-unfoldable pub channelCount : Layout → ℕ → ℕ
-channelCount Stereo channels = 2
-channelCount ThreeTwo channels = 5
-channelCount FivePointOne channels = 6
-channelCount Unspecified channels = min channels 6
+unfoldable pub channel_count : Layout → ℕ → ℕ
+channel_count Stereo channels = 2
+channel_count ThreeTwo channels = 5
+channel_count FivePointOne channels = 6
+channel_count Unspecified channels = min channels 6
 
 -- n names that no channel has
 abbrev pub unused : ℕ → List Name
 unused n = replicate n (0 ∷ 0 ∷ 0 ∷ 0 ∷ [])
 
 -- six names, of which the first are a layout's
-unfoldable pub sixNames : Layout → ChannelNumbers → List Name
-sixNames Stereo n = stereo ++ unused 4
-sixNames ThreeTwo n = threeTwo ++ unused 1
-sixNames FivePointOne n = fivePointOne
-sixNames Unspecified n = map channelName (numbersOf n)
+unfoldable pub six_names : Layout → ChannelNumbers → List Name
+six_names Stereo n = stereo ++ unused 4
+six_names ThreeTwo n = three_two ++ unused 1
+six_names FivePointOne n = five_point_one
+six_names Unspecified n = map channel_name (numbers_of n)
 
 -- the names of the channels
-unfoldable pub channelNames : Layout → ℕ → ChannelNumbers → List Name
-channelNames layout channels n = take (channelCount layout channels) (sixNames layout n)
+unfoldable pub channel_names : Layout → ℕ → ChannelNumbers → List Name
+channel_names layout channels n = take (channel_count layout channels) (six_names layout n)
 
 -- what LSCO tells of a layout
-unfoldable pub speakerCode : Layout → ℕ
-speakerCode Stereo = 0
-speakerCode ThreeTwo = 3
-speakerCode FivePointOne = 4
-speakerCode Unspecified = 65_535
+unfoldable pub speaker_code : Layout → ℕ
+speaker_code Stereo = 0
+speaker_code ThreeTwo = 3
+speaker_code FivePointOne = 4
+speaker_code Unspecified = 65_535

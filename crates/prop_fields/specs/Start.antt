@@ -3,11 +3,11 @@ use Rattle.std.specs.Prelude.{ℕ, Bool, true, false}
 use Rattle.prop_fields.specs.declared.start.Start.{Start}
 use Rattle.prop_fields.specs.declared.start.Start.TheVariants.{Absent, Given}
 
-unfoldable pub isGiven : Start → Bool
-isGiven Absent = false
-isGiven (Given frame) = true
+unfoldable pub is_given : Start → Bool
+is_given Absent = false
+is_given (Given frame) = true
 
 -- 0 if none is given
-unfoldable pub startFrame : Start → ℕ
-startFrame Absent = 0
-startFrame (Given frame) = frame
+unfoldable pub start_frame : Start → ℕ
+start_frame Absent = 0
+start_frame (Given frame) = frame

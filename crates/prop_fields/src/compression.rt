@@ -1,6 +1,6 @@
 // The compression type: the data of CMPR.
 ghost use Rattle.chunk.specs.Append.{Appended};
-ghost use Rattle.prop_fields.specs.Compression.{compressionData, cmprData};
+ghost use Rattle.prop_fields.specs.Compression.{compression_data, cmpr_data};
 
 use chunk::Cursor;
 
@@ -17,7 +17,7 @@ const DST_ENCODED: [u8; 11] = *b"DST Encoded";
 
 // The data of CMPR. Departure D1 counts the pad inside an odd one.
 pub fn cmpr_data(c: Cursor, out: &mut [u8], sound: Sound, d1: bool) -> Cursor
-    ensures { Appended out.old c.at (cmprData sound d1) out.new result.at }
+    ensures { Appended out.old c.at (cmpr_data sound d1) out.new result.at }
 {
     match sound {
         Sound::Dsd => {
@@ -31,7 +31,7 @@ pub fn cmpr_data(c: Cursor, out: &mut [u8], sound: Sound, d1: bool) -> Cursor
 
 // The same of a type and its name, of which the low byte of the length is written.
 fn compression_data(c: Cursor, out: &mut [u8], kind: [u8; 4], name: &[u8], d1: bool) -> Cursor
-    ensures { Appended out.old c.at (compressionData kind name.now d1) out.new result.at }
+    ensures { Appended out.old c.at (compression_data kind name.now d1) out.new result.at }
 {
     let c = c.name(out, kind);
     let c = c.byte(out, (name.len() % 256) as u8);

@@ -1,6 +1,6 @@
 // Speaker layouts: the names of the channels, and the code that LSCO tells.
 ghost use Rattle.std.specs.Prelude.{◌≡◌, map, min};
-ghost use Rattle.prop_fields.specs.Layout.{numbersOf, digit, channelName, channelCount, sixNames, speakerCode};
+ghost use Rattle.prop_fields.specs.Layout.{numbers_of, digit, channel_name, channel_count, six_names, speaker_code};
 
 // The speakers of an area.
 #[derive(Drop)]
@@ -27,7 +27,7 @@ const DEFAULT_NUMBERS: [u16; 6] = [0, 1, 2, 3, 4, 5];
 impl ChannelNumbers {
     // The numbers, by default 0 upward.
     fn list(self) -> [u16; 6]
-        ensures { result ≡ numbersOf self }
+        ensures { result ≡ numbers_of self }
     {
         if self.given {
             return self.numbers;
@@ -44,14 +44,14 @@ fn digit(n: u16) -> u8
 
 // The letter C and three digits. Of a number above 999, the last three.
 fn channel_name(n: u16) -> [u8; 4]
-    ensures { result ≡ channelName n }
+    ensures { result ≡ channel_name n }
 {
     [0x43, digit(n / 100), digit(n / 10), digit(n)]
 }
 
 // How many channels a layout names. The channels of an unspecified one are as many as are given, at most six.
 pub fn channel_count(layout: Layout, channels: u8) -> u16
-    ensures { result ≡ channelCount layout channels }
+    ensures { result ≡ channel_count layout channels }
 {
     match layout {
         Layout::Stereo => {
@@ -80,7 +80,7 @@ fn at_most_six(channels: u8) -> u16
 
 // The names of a layout's channels: the first `channel_count` of six.
 pub fn channels(layout: Layout, numbers: ChannelNumbers) -> [[u8; 4]; 6]
-    ensures { result ≡ sixNames layout numbers }
+    ensures { result ≡ six_names layout numbers }
 {
     match layout {
         Layout::Stereo => {
@@ -102,7 +102,7 @@ pub fn channels(layout: Layout, numbers: ChannelNumbers) -> [[u8; 4]; 6]
 
 // The names of an unspecified layout's channels.
 fn unspecified(numbers: ChannelNumbers) -> [[u8; 4]; 6]
-    ensures { result ≡ map channelName (numbersOf numbers) }
+    ensures { result ≡ map channel_name (numbers_of numbers) }
 {
     let n = numbers.list();
     [
@@ -117,7 +117,7 @@ fn unspecified(numbers: ChannelNumbers) -> [[u8; 4]; 6]
 
 // What LSCO tells of a layout.
 pub fn speaker_code(layout: Layout) -> u16
-    ensures { result ≡ speakerCode layout }
+    ensures { result ≡ speaker_code layout }
 {
     match layout {
         Layout::Stereo => {

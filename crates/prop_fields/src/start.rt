@@ -1,6 +1,6 @@
 // The absolute start of a file, in frames.
 ghost use Rattle.std.specs.Prelude.{◌≡◌};
-ghost use Rattle.prop_fields.specs.Start.{isGiven, startFrame};
+ghost use Rattle.prop_fields.specs.Start.{is_given, start_frame};
 
 #[derive(Drop)]
 pub enum Start {
@@ -10,7 +10,7 @@ pub enum Start {
 
 impl Start {
     pub fn is_given(self) -> bool
-        ensures { result ≡ isGiven self }
+        ensures { result ≡ is_given self }
     {
         match self {
             Start::Absent => {
@@ -24,7 +24,7 @@ impl Start {
 
     // The frame, 0 if none is given.
     pub fn frame(self) -> u32
-        ensures { result ≡ startFrame self }
+        ensures { result ≡ start_frame self }
     {
         match self {
             Start::Absent => {

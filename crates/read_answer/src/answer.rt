@@ -1,6 +1,6 @@
 // The answers of a query and of a read.
 ghost use Rattle.std.specs.Prelude.{◌≡◌};
-ghost use Rattle.read_answer.specs.Answer.{queryNumber, queryValues, readNumber, readValue};
+ghost use Rattle.read_answer.specs.Answer.{query_number, query_values, read_number, read_value};
 
 use sound_reads::place::Positions;
 
@@ -19,7 +19,7 @@ pub enum ReadAnswer {
 impl QueryAnswer {
     // Document 01's number, 0 where nothing is refused.
     pub fn number(self) -> u8
-        ensures { result ≡ queryNumber self }
+        ensures { result ≡ query_number self }
     {
         match self {
             QueryAnswer::Needed(_) => {
@@ -33,7 +33,7 @@ impl QueryAnswer {
 
     // The first position and one past the last, or the detail of a refusal and a zero.
     pub fn values(self) -> [u64; 2]
-        ensures { result ≡ queryValues self }
+        ensures { result ≡ query_values self }
     {
         match self {
             QueryAnswer::Needed(p) => {
@@ -49,7 +49,7 @@ impl QueryAnswer {
 impl ReadAnswer {
     // Document 01's number, 0 where nothing is refused.
     pub fn number(self) -> u8
-        ensures { result ≡ readNumber self }
+        ensures { result ≡ read_number self }
     {
         match self {
             ReadAnswer::Filled(_) => {
@@ -63,7 +63,7 @@ impl ReadAnswer {
 
     // How many bytes were filled, or the detail of a refusal.
     pub fn value(self) -> u64
-        ensures { result ≡ readValue self }
+        ensures { result ≡ read_value self }
     {
         match self {
             ReadAnswer::Filled(count) => {

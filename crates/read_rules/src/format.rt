@@ -1,7 +1,7 @@
 // The format of a file's sound, as a query or a read is told it, and refusal 42.
 ghost use Rattle.std.specs.Prelude.{◌≡◌};
-ghost use Rattle.read_rules.specs.Format.{positionCount};
-ghost use Rattle.read_rules.specs.Fault.{badLength, formatFault};
+ghost use Rattle.read_rules.specs.Format.{position_count};
+ghost use Rattle.read_rules.specs.Fault.{bad_length, format_fault};
 
 use prop_fields::compression::Sound;
 use refusal::verdict::{Verdict, refuse_if};
@@ -22,7 +22,7 @@ const LONGEST_SIDE: u64 = 0x100_0000_0000;
 impl SoundFormat {
     // How many positions there are, with these lengths of DST frames.
     fn position_count(self, lengths: &[u32]) -> u64
-        ensures { result ≡ positionCount self lengths.now }
+        ensures { result ≡ position_count self lengths.now }
     {
         let sound = self.sound;
         match sound {
@@ -37,7 +37,7 @@ impl SoundFormat {
 
     // Whether a length of a DST frame is not 1 to 65,536.
     fn lengths_wrong(self, lengths: &[u32]) -> bool
-        ensures { result ≡ badLength self lengths.now }
+        ensures { result ≡ bad_length self lengths.now }
     {
         let sound = self.sound;
         match sound {
@@ -52,7 +52,7 @@ impl SoundFormat {
 
     // 42, where header and trailer have so many bytes.
     pub fn fault(self, lengths: &[u32], header: u64, trailer: u64) -> Verdict
-        ensures { result ≡ formatFault self lengths.now header trailer }
+        ensures { result ≡ format_fault self lengths.now header trailer }
     {
         let channels = self.channels;
         let count = self.position_count(lengths);

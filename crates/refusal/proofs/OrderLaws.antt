@@ -11,36 +11,36 @@ use Rattle.chunk_names.specs.declared.InfoChunk.{InfoChunk}
 use Rattle.chunk_names.specs.declared.InfoChunk.TheVariants.{EditedMasterId, Markers, Artist, Title}
 use Rattle.chunk_names.specs.declared.LocalChunk.{LocalChunk}
 use Rattle.chunk_names.specs.declared.LocalChunk.TheVariants.{Property, SoundData, DstIndex, EditedMasterInfo, Comments}
-use Rattle.refusal.specs.Below.{below, howMany}
-use Rattle.refusal.specs.Orders.{infoRank, localRank, times}
+use Rattle.refusal.specs.Below.{below, how_many}
+use Rattle.refusal.specs.Orders.{info_rank, local_rank, times}
 
 -- how often a number is in a row, by the row's first number
-how-many-front : (f : ℕ → Bool) (n : ℕ) → howMany f (suc n) ≡ cond (f 0) 1 0 + howMany (λ k. f (suc k)) n
+how_many-front : (f : ℕ → Bool) (n : ℕ) → how_many f (suc n) ≡ cond (f 0) 1 0 + how_many (λ k. f (suc k)) n
 unfolding below
-how-many-front f zero = omega arith
-how-many-front f (suc n) = omega (arith, how-many-front f n)
+how_many-front f zero = omega arith
+how_many-front f (suc n) = omega (arith, how_many-front f n)
 
 pub times-cons : (x : ℕ) (xs : List ℕ) (r : ℕ) → times (x ∷ xs) r ≡ cond (eqb x r) 1 0 + times xs r
 unfolding times
-times-cons x xs r = how-many-front (λ k. eqb (get_or (x ∷ xs) k 0) r) (length xs)
+times-cons x xs r = how_many-front (λ k. eqb (get_or (x ∷ xs) k 0) r) (length xs)
 
 pub times_none : (r : ℕ) → times [] r ≡ 0
 unfolding times below
 times_none r = refl
 
 -- the numbers of the names are below how many there are
-pub info-rank-low : (c : InfoChunk) → infoRank c < 4
-info-rank-low EditedMasterId = omega arith
-info-rank-low Markers = omega arith
-info-rank-low Artist = omega arith
-info-rank-low Title = omega arith
+pub info_rank_low : (c : InfoChunk) → info_rank c < 4
+info_rank_low EditedMasterId = omega arith
+info_rank_low Markers = omega arith
+info_rank_low Artist = omega arith
+info_rank_low Title = omega arith
 
-pub local-rank-low : (c : LocalChunk) → localRank c < 5
-local-rank-low Property = omega arith
-local-rank-low SoundData = omega arith
-local-rank-low DstIndex = omega arith
-local-rank-low EditedMasterInfo = omega arith
-local-rank-low Comments = omega arith
+pub local_rank_low : (c : LocalChunk) → local_rank c < 5
+local_rank_low Property = omega arith
+local_rank_low SoundData = omega arith
+local_rank_low DstIndex = omega arith
+local_rank_low EditedMasterInfo = omega arith
+local_rank_low Comments = omega arith
 
 -- NAMES, each a number below `names`, that make at most so much each
 module _ {A : Type 0} (rank : A → ℕ) (made : A → List ℕ) (most : ℕ → ℕ) (fits : (x : A) → length (made x) ≤ most (rank x)) where
@@ -94,12 +94,12 @@ module _ {A : Type 0} (rank : A → ℕ) (made : A → List ℕ) (most : ℕ →
   below-room zero xs once = omega (arith, none_yet xs)
   below-room (suc n) xs once = omega (arith, next n xs (once n (omega arith)), below-room n xs (λ r h. once r (omega arith)))
 
-  all-below : (names : ℕ) → ((x : A) → rank x < names) → (xs : List A) → length (flat_map made xs) ≡ up_to names xs
+  all_below : (names : ℕ) → ((x : A) → rank x < names) → (xs : List A) → length (flat_map made xs) ≡ up_to names xs
   unfolding flat_map
-  all-below names low [] = refl
-  all-below names low (x ∷ xs) = rw (length-append, lt-ltb (rank x) names (low x), all-below names low xs)
+  all_below names low [] = refl
+  all_below names low (x ∷ xs) = rw (length-append, lt-ltb (rank x) names (low x), all_below names low xs)
 
   -- EACH NAME AT MOST ONCE: all of them make at most what one of each may make
   pub once-room : (names : ℕ) → ((x : A) → rank x < names) → (xs : List A) → ((r : ℕ) → r < names → times (map rank xs) r ≤ 1)
       → length (flat_map made xs) ≤ below ◌+◌ 0 most names
-  once-room names low xs once = rw (all-below names low xs) (below-room names xs once)
+  once-room names low xs once = rw (all_below names low xs) (below-room names xs once)

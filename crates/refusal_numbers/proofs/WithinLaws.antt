@@ -5,8 +5,8 @@ use Prim.Native.Nat.{ℕ, zero, suc, ◌≤◌}
 use native.Mathlib.Omega.{arith}
 use lib.Dec.{leb}
 use borrow.Author.Tests.{leb-true}
-use Rattle.refusal.specs.Verdict.{or_else, refuseIf, when}
-use Rattle.refusal.specs.Below.{below, firstRefused}
+use Rattle.refusal.specs.Verdict.{or_else, refuse_if, when}
+use Rattle.refusal.specs.Below.{below, first_refused}
 use Rattle.refusal.specs.declared.verdict.Verdict.{Verdict}
 use Rattle.refusal.specs.declared.verdict.Verdict.TheVariants.{Accepted, Refused}
 use Rattle.refusal_numbers.specs.Numbers.{Within}
@@ -24,9 +24,9 @@ module _ {low high : ℕ} where
     most = λ n d e. let z : number ≡ n = cc in rw (← z) m;
   }
 
-  pub within-if : (t : Bool) (number detail : ℕ) → leb low number ≡ true → leb number high ≡ true → Within low high (refuseIf t number detail)
-  within-if true number detail l m = within-one number detail (leb-true low number l) (leb-true number high m)
-  within-if false number detail l m = within_none
+  pub within_if : (t : Bool) (number detail : ℕ) → leb low number ≡ true → leb number high ≡ true → Within low high (refuse_if t number detail)
+  within_if true number detail l m = within-one number detail (leb-true low number l) (leb-true number high m)
+  within_if false number detail l m = within_none
 
   pub within-or : (v w : Verdict) → Within low high v → Within low high w → Within low high (or_else v w)
   within-or Accepted w a b = b
@@ -36,7 +36,7 @@ module _ {low high : ℕ} where
   within-when true a = a
   within-when false a = within_none
 
-  pub within_first : (f : ℕ → Verdict) → ((k : ℕ) → Within low high (f k)) → (n : ℕ) → Within low high (firstRefused f n)
+  pub within_first : (f : ℕ → Verdict) → ((k : ℕ) → Within low high (f k)) → (n : ℕ) → Within low high (first_refused f n)
   unfolding below
   within_first f h zero = within_none
-  within_first f h (suc n) = within-or (firstRefused f n) (f n) (within_first f h n) (h n)
+  within_first f h (suc n) = within-or (first_refused f n) (f n) (within_first f h n) (h n)

@@ -3,10 +3,10 @@ use Rattle.std.specs.Prelude.{◌≡◌, List, ℕ, ◌≤◌}
 use Rattle.refusal.specs.declared.verdict.Verdict.{Verdict}
 use Rattle.refusal.specs.declared.verdict.Verdict.TheVariants.{Refused}
 use Rattle.build_options.specs.Inputs.{Inputs}
-use Rattle.assemble.specs.Build.{buildVerdict}
+use Rattle.assemble.specs.Build.{build_verdict}
 use Rattle.read_rules.specs.declared.format.SoundFormat.{SoundFormat}
-use Rattle.read_rules.specs.Fault.{formatFault}
-use Rattle.file_read.specs.Read.{Request, readVerdict}
+use Rattle.read_rules.specs.Fault.{format_fault}
+use Rattle.file_read.specs.Read.{Request, read_verdict}
 
 -- if it is a refusal, its number is one of these
 pub record Within (low high : ℕ) (v : Verdict) : Type 0 where
@@ -14,6 +14,6 @@ pub record Within (low high : ℕ) (v : Verdict) : Type 0 where
   pub most : (number detail : ℕ) → v ≡ Refused number detail → number ≤ high
 
 pub record Numbered : Type 0 where
-  pub build : (x : Inputs) (header trailer : List ℕ) → Within 1 41 (buildVerdict x header trailer)
-  pub query : (f : SoundFormat) (lengths : List ℕ) (header trailer : ℕ) → Within 42 42 (formatFault f lengths header trailer)
-  pub read : (q : Request) (room : ℕ) → Within 42 43 (readVerdict q room)
+  pub build : (x : Inputs) (header trailer : List ℕ) → Within 1 41 (build_verdict x header trailer)
+  pub query : (f : SoundFormat) (lengths : List ℕ) (header trailer : ℕ) → Within 42 42 (format_fault f lengths header trailer)
+  pub read : (q : Request) (room : ℕ) → Within 42 43 (read_verdict q room)

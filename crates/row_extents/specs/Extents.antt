@@ -2,22 +2,22 @@
 use Rattle.std.specs.Prelude.{ℕ, ◌+◌, Bool, ◌||◌, List, ltb}
 use Rattle.texts.specs.declared.extent.Extent.{Extent}
 use Rattle.rows.specs.declared.row.Row.{Row}
-use Rattle.rows.specs.Row.{extentAt, countOfRows, cutShort}
+use Rattle.rows.specs.Row.{extent_at, count_of_rows, cut_short}
 use Rattle.refusal.specs.Below.{any}
 
 -- an extent names more elements than it may
-abbrev pub isLong : ℕ → Extent → Bool
-isLong longest e = ltb longest e.length
+abbrev pub is_long : ℕ → Extent → Bool
+is_long longest e = ltb longest e.length
 
 -- an extent runs outside a pool of so many elements
-abbrev pub isOutside : ℕ → Extent → Bool
-isOutside pool e = ltb pool (e.start + e.length)
+abbrev pub is_outside : ℕ → Extent → Bool
+is_outside pool e = ltb pool (e.start + e.length)
 
 -- 1: more rows than there may be, or an extent that is too long
-unfoldable pub tooLarge : Row → List ℕ → ℕ → ℕ → Bool
-tooLarge kind words most longest =
-    ltb most (countOfRows kind words) || any (λ k. isLong longest (extentAt kind words k)) (countOfRows kind words)
+unfoldable pub too_large : Row → List ℕ → ℕ → ℕ → Bool
+too_large kind words most longest =
+    ltb most (count_of_rows kind words) || any (λ k. is_long longest (extent_at kind words k)) (count_of_rows kind words)
 
 -- 2: the last row is cut short, or an extent runs outside its pool
-unfoldable pub outsidePool : Row → List ℕ → ℕ → Bool
-outsidePool kind words pool = cutShort kind words || any (λ k. isOutside pool (extentAt kind words k)) (countOfRows kind words)
+unfoldable pub outside_pool : Row → List ℕ → ℕ → Bool
+outside_pool kind words pool = cut_short kind words || any (λ k. is_outside pool (extent_at kind words k)) (count_of_rows kind words)

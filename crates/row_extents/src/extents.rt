@@ -1,6 +1,6 @@
 // 1 and 2: the extents that rows name, held to their limits and their pool.
 ghost use Rattle.std.specs.Prelude.{◌≡◌};
-ghost use Rattle.row_extents.specs.Extents.{tooLarge, outsidePool};
+ghost use Rattle.row_extents.specs.Extents.{too_large, outside_pool};
 
 use rows::row::Row;
 
@@ -13,8 +13,8 @@ pub struct RowFaults {
 
 // Rows of at most `most`, whose extents name at most `longest` of a pool's elements.
 pub fn extents(kind: Row, rows: &[u32], most: u64, longest: u32, pool: usize) -> RowFaults
-    ensures too_large_value { result.too_large ≡ tooLarge kind rows.now most longest }
-    ensures outside_value { result.outside ≡ outsidePool kind rows.now pool }
+    ensures too_large_value { result.too_large ≡ too_large kind rows.now most longest }
+    ensures outside_value { result.outside ≡ outside_pool kind rows.now pool }
 {
     let w = kind.width();
     let n = kind.count(rows);

@@ -11,7 +11,7 @@ use lib.Bits.{bit_or, or_lt, or_comm, or_add_and, and_le_r}
 use borrow.Author.Tests.{ltb-true, ltb-false, lt-ltb, le-ltb}
 use Rattle.refusal.specs.Below.{any}
 use Rattle.refusal.proofs.BelowLaws.{below-cut}
-use Rattle.rows.specs.Lengths.{lengthWrong}
+use Rattle.rows.specs.Lengths.{length_wrong}
 
 or_left : (a b : ℕ) → a ≤ bit_or a b
 or_left a b = omega (arith, or_add_and a b, and_le_r a b)
@@ -27,12 +27,12 @@ joined a b = go (ltb 65_535 a) (ltb 65_535 b) refl refl
         let hb : b < 2 ^ 16 = omega (arith, ltb-false 65_535 b q) in
         le-ltb 65_535 (bit_or a b) (omega (arith, or_lt 16 a b ha hb))
 
-pub before-wrong : (x : ℕ) → x < 2 ^ 32 → ltb 65_535 ((x + 4_294_967_295) % 4_294_967_296) ≡ lengthWrong x
+pub before-wrong : (x : ℕ) → x < 2 ^ 32 → ltb 65_535 ((x + 4_294_967_295) % 4_294_967_296) ≡ length_wrong x
 before-wrong zero h = refl
 before-wrong (suc x) h =
     let e : (suc x + 4_294_967_295) % 4_294_967_296 ≡ x = omega arith in ap (ltb 65_535) e ∙ go (ltb 65_535 x) refl
   where
-    go : (t : Bool) → ltb 65_535 x ≡ t → ltb 65_535 x ≡ lengthWrong (suc x)
+    go : (t : Bool) → ltb 65_535 x ≡ t → ltb 65_535 x ≡ length_wrong (suc x)
     go true p =
         let k = ltb-true 65_535 x p in
         p ∙ sym (ap₂ (λ (a b : Bool). a || b) (le-ltb (suc x) 1 (omega arith)) (lt-ltb 65_536 (suc x) (omega arith)))

@@ -14,8 +14,8 @@ use Rattle.rows.specs.declared.row.Row.TheVariants.{Text, Caller, Track, Marker,
 pub rows-there : (n w k : ℕ) → 0 < w → k ≤ n / w → k * w ≤ n
 rows-there n w k h l = (le-div_iff_mul-le {k = w} {x = k} {y = n} h).0 l
 
-pub rows-past : (n w k : ℕ) → 0 < w → n / w < k → n < k * w
-rows-past n w k h l = (div-lt_iff_lt-mul h).0 l
+pub rows_past : (n w k : ℕ) → 0 < w → n / w < k → n < k * w
+rows_past n w k h l = (div-lt_iff_lt-mul h).0 l
 
 -- word j of row k
 pub row_word : (words : List ℕ) (w k j : ℕ) → j < w → get_or words (k * w + j) 0 ≡ get_or (row_at w words k) j 0
@@ -25,8 +25,8 @@ row_word words w k j h = rw (get_or-take, get_or-drop)
 pub no_word : (words : List ℕ) (w k j : ℕ) → w ≤ j → 0 ≡ get_or (row_at w words k) j 0
 no_word words w k j h = sym (get_or-eq_default {A = ℕ} (row_at w words k) 0 (omega (arith, length-take w (drop (k * w) words))))
 
-pub word-past : (words : List ℕ) (w k j : ℕ) → j < w → length words ≤ k * w + j → 0 ≡ get_or (row_at w words k) j 0
-word-past words w k j h past = sym (get_or-eq_default {A = ℕ} words 0 past) ∙ row_word words w k j h
+pub word_past : (words : List ℕ) (w k j : ℕ) → j < w → length words ≤ k * w + j → 0 ≡ get_or (row_at w words k) j 0
+word_past words w k j h past = sym (get_or-eq_default {A = ℕ} words 0 past) ∙ row_word words w k j h
 
 -- every row has an extent
 pub two-words : (kind : Row) → 2 ≤ width kind

@@ -2,12 +2,12 @@
 use Rattle.std.specs.Prelude.{ℕ, ◌+◌, List, ltb, get_or}
 use Rattle.refusal.specs.declared.verdict.Verdict.{Verdict}
 use Rattle.rows.specs.declared.row.Row.TheVariants.{Track}
-use Rattle.refusal.specs.Verdict.{refuseIf}
-use Rattle.refusal.specs.Below.{firstRefused}
-use Rattle.rows.specs.Row.{row_at, countOfRows}
+use Rattle.refusal.specs.Verdict.{refuse_if}
+use Rattle.refusal.specs.Below.{first_refused}
+use Rattle.rows.specs.Row.{row_at, count_of_rows}
 
-abbrev pub shortTrack : List ℕ → ℕ → Verdict
-shortTrack tracks k = refuseIf (ltb (get_or (row_at 4 tracks k) 1 0) 75) 18 (k + 1)
+abbrev pub short_track : List ℕ → ℕ → Verdict
+short_track tracks k = refuse_if (ltb (get_or (row_at 4 tracks k) 1 0) 75) 18 (k + 1)
 
-unfoldable pub shortTracks : List ℕ → Verdict
-shortTracks tracks = firstRefused (shortTrack tracks) (countOfRows Track tracks)
+unfoldable pub short_tracks : List ℕ → Verdict
+short_tracks tracks = first_refused (short_track tracks) (count_of_rows Track tracks)

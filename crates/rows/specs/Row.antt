@@ -17,17 +17,17 @@ abbrev pub row_at : ℕ → List ℕ → ℕ → List ℕ
 row_at w words k = take w (drop (k * w) words)
 
 -- the extent that a row of w words names: its last two words
-abbrev pub extentOf : ℕ → List ℕ → Extent
-extentOf w row = record { start = get_or row (w - 2) 0; length = get_or row (w - 1) 0 }
+abbrev pub extent_of : ℕ → List ℕ → Extent
+extent_of w row = record { start = get_or row (w - 2) 0; length = get_or row (w - 1) 0 }
 
 -- the extent that row k names
-abbrev pub extentAt : Row → List ℕ → ℕ → Extent
-extentAt kind words k = extentOf (width kind) (row_at (width kind) words k)
+abbrev pub extent_at : Row → List ℕ → ℕ → Extent
+extent_at kind words k = extent_of (width kind) (row_at (width kind) words k)
 
 -- the whole rows
-abbrev pub countOfRows : Row → List ℕ → ℕ
-countOfRows kind words = length words / width kind
+abbrev pub count_of_rows : Row → List ℕ → ℕ
+count_of_rows kind words = length words / width kind
 
 -- whether words are left that make no whole row
-abbrev pub cutShort : Row → List ℕ → Bool
-cutShort kind words = not (eqb (length words % width kind) 0)
+abbrev pub cut_short : Row → List ℕ → Bool
+cut_short kind words = not (eqb (length words % width kind) 0)

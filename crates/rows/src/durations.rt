@@ -1,6 +1,6 @@
 // 18: the tracks of an edited master are not short.
 ghost use Rattle.std.specs.Prelude.{◌≡◌};
-ghost use Rattle.rows.specs.Durations.{shortTracks};
+ghost use Rattle.rows.specs.Durations.{short_tracks};
 
 use crate::row::Row;
 use refusal::verdict::{Verdict, refuse_if};
@@ -9,7 +9,7 @@ const SHORTEST: u32 = 75;
 
 // The first track under 75 frames; the detail is its number.
 pub fn short_tracks(tracks: &[u32]) -> Verdict
-    ensures { result ≡ shortTracks tracks.now }
+    ensures { result ≡ short_tracks tracks.now }
 {
     let kind = Row::Track;
     let n = kind.count(tracks);

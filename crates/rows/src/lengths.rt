@@ -1,6 +1,6 @@
 // 10: the lengths of DST frames.
 ghost use Rattle.std.specs.Prelude.{◌≡◌, ◌+◌, ◌%◌};
-ghost use Rattle.rows.specs.Lengths.{lengthsWrong};
+ghost use Rattle.rows.specs.Lengths.{lengths_wrong};
 
 // The number before x; of 0, the largest.
 fn one_less(x: u32) -> u32
@@ -15,7 +15,7 @@ const LAST: u32 = 65_535;
 // Whether one of them is not 1 to 65,536. The numbers before them are joined bit by bit and tested once, so that the loop has no branch and is
 // done on many lengths at once; and it goes over two halves at a time, which is faster than one long run. Of an odd number the middle one is in both.
 pub fn lengths_wrong(lengths: &[u32]) -> bool
-    ensures { result ≡ lengthsWrong lengths.now }
+    ensures { result ≡ lengths_wrong lengths.now }
 {
     let second = lengths.len() / 2;
     let half = lengths.len() - second;

@@ -1,6 +1,6 @@
 // Rows of words: what a build is lent of texts, caller chunks, tracks, markers and comments. The last two words of a row are its extent.
 ghost use Rattle.std.specs.Prelude.{◌≡◌, ◌-◌, get_or};
-ghost use Rattle.rows.specs.Row.{width, row_at, extentOf, countOfRows, cutShort};
+ghost use Rattle.rows.specs.Row.{width, row_at, extent_of, count_of_rows, cut_short};
 
 use texts::extent::Extent;
 
@@ -40,7 +40,7 @@ impl Row {
 
     // How many whole rows there are.
     pub fn count(self, rows: &[u32]) -> usize
-        ensures { result ≡ countOfRows self rows.now }
+        ensures { result ≡ count_of_rows self rows.now }
     {
         let w = self.width();
         rows.len() / w
@@ -48,7 +48,7 @@ impl Row {
 
     // Whether the last row is cut short.
     pub fn is_cut_short(self, rows: &[u32]) -> bool
-        ensures { result ≡ cutShort self rows.now }
+        ensures { result ≡ cut_short self rows.now }
     {
         let w = self.width();
         rows.len() % w != 0
@@ -84,7 +84,7 @@ fn less(a: usize, b: usize) -> usize
 
 // The extent of row k: its last two words.
 pub fn extent_at(rows: &[u32], w: usize, k: usize) -> Extent
-    ensures { result ≡ extentOf w (row_at w rows.now k) }
+    ensures { result ≡ extent_of w (row_at w rows.now k) }
 {
     Extent {
         start: word(rows, w, k, less(w, 2)),

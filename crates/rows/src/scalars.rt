@@ -1,20 +1,20 @@
 // 3: the values of texts are Unicode scalars.
 ghost use Rattle.std.specs.Prelude.{◌≡◌};
 ghost use Rattle.texts.specs.Extent.{part};
-ghost use Rattle.rows.specs.Scalars.{isNoScalar, hasNoScalar, noScalars};
+ghost use Rattle.rows.specs.Scalars.{is_no_scalar, has_no_scalar, no_scalars};
 
 use crate::row::Row;
 use texts::extent::Extent;
 
 fn is_no_scalar(x: u32) -> bool
-    ensures { result ≡ isNoScalar x }
+    ensures { result ≡ is_no_scalar x }
 {
     ((0xD800 <= x) & (x <= 0xDFFF)) | (0x10FFFF < x)
 }
 
 // Whether one of the values is none.
 fn has_no_scalar(values: &[u32]) -> bool
-    ensures { result ≡ hasNoScalar values.now }
+    ensures { result ≡ has_no_scalar values.now }
 {
     let mut found = false;
     let mut i = 0;
@@ -27,7 +27,7 @@ fn has_no_scalar(values: &[u32]) -> bool
 
 // The same of a part of a pool.
 fn part_has_no_scalar(pool: &[u32], e: Extent) -> bool
-    ensures { result ≡ hasNoScalar (part pool.now e) }
+    ensures { result ≡ has_no_scalar (part pool.now e) }
 {
     let first = e.first(pool.len());
     let end = e.end(pool.len());
@@ -36,7 +36,7 @@ fn part_has_no_scalar(pool: &[u32], e: Extent) -> bool
 
 // The same of the texts that rows name.
 pub fn no_scalars(kind: Row, rows: &[u32], pool: &[u32]) -> bool
-    ensures { result ≡ noScalars kind rows.now pool.now }
+    ensures { result ≡ no_scalars kind rows.now pool.now }
 {
     let w = kind.width();
     let n = kind.count(rows);

@@ -1,6 +1,6 @@
 // What DIIN tells (30 to 33), checked if there is one.
 ghost use Rattle.std.specs.Prelude.{◌≡◌};
-ghost use Rattle.rules.specs.Info.{idWrong, infoFaults};
+ghost use Rattle.rules.specs.Info.{id_wrong, info_faults};
 
 use build_options::area::Area;
 use chunk_names::InfoChunk;
@@ -10,7 +10,7 @@ use refusal::verdict::{Verdict, refuse_if};
 use texts::text::TextRule;
 
 fn id_wrong(raw: &[u8], id: Text) -> bool
-    ensures { result ≡ idWrong raw.now id }
+    ensures { result ≡ id_wrong raw.now id }
 {
     match id {
         Text::Absent => {
@@ -30,7 +30,7 @@ pub fn info_faults(
     raw: &[u8],
     markers: &[u32],
 ) -> Verdict
-    ensures { result ≡ infoFaults area info order raw.now markers.now }
+    ensures { result ≡ info_faults area info order raw.now markers.now }
 {
     let id = info.emid;
     let text = info.text;

@@ -1,6 +1,6 @@
 // Limits, pools and Unicode scalars (1 to 3), of everything that is lent.
 ghost use Rattle.std.specs.Prelude.{◌≡◌, length};
-ghost use Rattle.rules.specs.Limits.{anyTooLarge, anyOutside, anyNoScalar, limitFaults};
+ghost use Rattle.rules.specs.Limits.{any_too_large, any_outside, any_no_scalar, limit_faults};
 
 use build_options::options::Options;
 use refusal::verdict::{Verdict, refuse_if};
@@ -31,8 +31,8 @@ fn row_faults(
     comments: &[u32],
     callers: &[u32],
 ) -> RowFaults
-    ensures too_large_value { result.too_large ≡ anyTooLarge o tracks.now markers.now comments.now callers.now }
-    ensures outside_value { result.outside ≡ anyOutside o (length pool.now) (length raw.now) tracks.now markers.now comments.now callers.now }
+    ensures too_large_value { result.too_large ≡ any_too_large o tracks.now markers.now comments.now callers.now }
+    ensures outside_value { result.outside ≡ any_outside o (length pool.now) (length raw.now) tracks.now markers.now comments.now callers.now }
 {
     let album = o.album;
     let track = o.track;
@@ -63,7 +63,7 @@ fn row_faults(
 
 // Whether a text has a value that is no scalar.
 fn any_no_scalar(o: Options, pool: &[u32], tracks: &[u32], comments: &[u32]) -> bool
-    ensures { result ≡ anyNoScalar o pool.now tracks.now comments.now }
+    ensures { result ≡ any_no_scalar o pool.now tracks.now comments.now }
 {
     let album = o.album;
     let track = o.track;
@@ -84,7 +84,7 @@ pub fn limit_faults(
     comments: &[u32],
     callers: &[u32],
 ) -> Verdict
-    ensures { result ≡ limitFaults o pool.now raw.now tracks.now markers.now comments.now callers.now }
+    ensures { result ≡ limit_faults o pool.now raw.now tracks.now markers.now comments.now callers.now }
 {
     let rows = row_faults(o, pool, raw, tracks, markers, comments, callers);
     let v1 = refuse_if(rows.too_large, 1, 0);

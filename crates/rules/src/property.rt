@@ -1,6 +1,6 @@
 // What PROP tells, and the replacement byte (24 to 29).
 ghost use Rattle.std.specs.Prelude.{◌≡◌};
-ghost use Rattle.rules.specs.Property.{replacementWrong, numbersFault, startFault, propertyFaults};
+ghost use Rattle.rules.specs.Property.{replacement_wrong, numbers_fault, start_fault, property_faults};
 
 use build_options::area::Area;
 use build_options::options::{Options, Replacement, Settings};
@@ -13,7 +13,7 @@ use refusal::verdict::{Verdict, refuse_if};
 const LAST_FRAME_OF_DAY: u64 = 6_479_999;
 
 fn replacement_wrong(replacement: Replacement) -> bool
-    ensures { result ≡ replacementWrong replacement }
+    ensures { result ≡ replacement_wrong replacement }
 {
     match replacement {
         Replacement::Nothing => {
@@ -41,7 +41,7 @@ fn words(n: [u16; 6]) -> [u32; 6]
 
 // 25 to 27, of an unspecified layout whose channel numbers are given
 fn numbers_fault(area: Area, numbers: ChannelNumbers) -> Verdict
-    ensures { result ≡ numbersFault area numbers }
+    ensures { result ≡ numbers_fault area numbers }
 {
     let layout = area.layout;
     let list = numbers.numbers;
@@ -55,7 +55,7 @@ fn numbers_fault(area: Area, numbers: ChannelNumbers) -> Verdict
 
 // 29
 fn start_fault(area: Area, start: Start) -> Verdict
-    ensures { result ≡ startFault area start }
+    ensures { result ≡ start_fault area start }
 {
     let end = start.frame() as u64 + area.positions() as u64;
     refuse_if(start.is_given() & (LAST_FRAME_OF_DAY < end), 29, 0)
@@ -63,7 +63,7 @@ fn start_fault(area: Area, start: Start) -> Verdict
 
 // 24 to 29
 pub fn property_faults(area: Area, o: Options, s: Settings, order: [PropertyChunk; 5]) -> Verdict
-    ensures { result ≡ propertyFaults area o s order }
+    ensures { result ≡ property_faults area o s order }
 {
     let replacement = o.text_replacement;
     let numbers = o.channel_numbers;

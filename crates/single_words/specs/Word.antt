@@ -1,7 +1,7 @@
 -- A word of a list. Assumes nothing.
 use Rattle.std.specs.Prelude.{ℕ, zero, suc, ◌+◌, ◌^◌, ◌%◌, Bool, not, List, [], ◌∷◌, eqb, get_or}
 use Rattle.diin_texts.specs.declared.diin_text.Text.{Text}
-use Rattle.meanings.specs.Diin.{givenText}
+use Rattle.meanings.specs.Diin.{given_text}
 
 -- word i, 0 past the end
 abbrev pub word_of : List ℕ → ℕ → ℕ
@@ -25,5 +25,5 @@ unfoldable pub is_set : List ℕ → ℕ → Bool
 is_set words i = not (eqb (word_of words i) 0)
 
 -- a text of three words from word i on
-unfoldable pub textAt : List ℕ → ℕ → Text
-textAt words i = givenText (word_of words i ∷ word_of words (i + 1) ∷ word_of words (i + 2) ∷ [])
+unfoldable pub text_at : List ℕ → ℕ → Text
+text_at words i = given_text (word_of words i ∷ word_of words (i + 1) ∷ word_of words (i + 2) ∷ [])

@@ -1,7 +1,7 @@
 // A word of a list. One past the end is 0; one that stands for a u8 or a u16 counts by its low bits (the crate words refuses lists where either matters); a switch is
 // on if its word is not 0.
 ghost use Rattle.std.specs.Prelude.{◌≡◌};
-ghost use Rattle.single_words.specs.Word.{word_of, low_byte, half_of, is_set, textAt};
+ghost use Rattle.single_words.specs.Word.{word_of, low_byte, half_of, is_set, text_at};
 
 use diin_texts::diin_text::Text;
 
@@ -34,7 +34,7 @@ pub fn is_set(words: &[u32], i: usize) -> bool
 
 // A text of three words from word i on.
 pub fn text_at(words: &[u32], i: u8) -> Text
-    ensures { result ≡ textAt words.now i }
+    ensures { result ≡ text_at words.now i }
 {
     let given = word(words, i as usize);
     let start = word(words, i as usize + 1);

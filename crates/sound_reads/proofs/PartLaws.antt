@@ -11,19 +11,19 @@ use lib.ListN.{length, take, drop, length-append, length-drop, length-map, drop_
 use lib.Seq.{drop-append-add, drop-nil, take-take, slice}
 use Rattle.chunk.specs.Append.{overlay}
 use Rattle.chunk.proofs.AppendLaws.{length-overlay, overlay-out, overlay-append}
-use Rattle.chunk.proofs.ListLaws.{flatMap-append}
+use Rattle.chunk.proofs.ListLaws.{flat_map-append}
 use Rattle.window.specs.declared.window.Window.{Window}
 use Rattle.sound_reads.specs.declared.place.Positions.{Positions}
 use Rattle.dst.specs.Start.{sum, start}
 use Rattle.sound_reads.specs.Place.{place_of}
-use Rattle.sound_reads.specs.Positions.{positionsFor, between}
+use Rattle.sound_reads.specs.Positions.{positions_for, between}
 use Rattle.sound_reads.specs.declared.lent.Fill.{Fill}
 use Rattle.sound_reads.specs.declared.lent.Fill.TheVariants.{Filled}
 use Rattle.window.specs.Window.{shown, after, Wrote}
 use Rattle.sound_reads.specs.Fill.{Filling}
-use Rattle.dst.proofs.StartLaws.{start-all, start-mono}
+use Rattle.dst.proofs.StartLaws.{start_all, start_mono}
 use Rattle.sound_reads.proofs.PlaceLaws.{found, position-is, position-end}
-use Rattle.sound_reads.proofs.PositionsLaws.{Nothing, Some, positions-are, positions-none}
+use Rattle.sound_reads.proofs.PositionsLaws.{Nothing, Some, positions_are, positions_none}
 use Rattle.window.proofs.WindowLaws.{drop-append}
 
 -- Bytes at the place w, of which a part at the place v is all that is wanted: the same is shown, and as many bytes are written.
@@ -88,20 +88,20 @@ map-drop g zero xs = refl
 map-drop g (suc k) [] = refl
 map-drop g (suc k) (x ∷ xs) = map-drop g k xs
 
-pub map-slice : {A : Type 0} (g : A → ℕ) (a b : ℕ) (xs : List A) → map g (slice a b xs) ≡ slice a b (map g xs)
-map-slice g a b xs = map-drop g a (take b xs) ∙ ap (drop a) (map-take g b xs)
+pub map_slice : {A : Type 0} (g : A → ℕ) (a b : ℕ) (xs : List A) → map g (slice a b xs) ≡ slice a b (map g xs)
+map_slice g a b xs = map-drop g a (take b xs) ∙ ap (drop a) (map-take g b xs)
 
 -- Sound that is made of units: f is the unit of an element of xs.
 module _ {A : Type 0} (f : A → List ℕ) where
-  abbrev pub unitSizes : List A → List ℕ
-  unitSizes xs = map (λ (x : A). length (f x)) xs
+  abbrev pub unit_sizes : List A → List ℕ
+  unit_sizes xs = map (λ (x : A). length (f x)) xs
 
-  pub length-joined : (xs : List A) → length (flat_map f xs) ≡ sum (unitSizes xs)
+  pub length-joined : (xs : List A) → length (flat_map f xs) ≡ sum (unit_sizes xs)
   unfolding flat_map sum
   length-joined [] = refl
   length-joined (x ∷ xs) = rw (length-append, length-joined xs)
 
-  length_before : (xs : List A) (k : ℕ) → length (flat_map f (take k xs)) ≡ start (unitSizes xs) k
+  length_before : (xs : List A) (k : ℕ) → length (flat_map f (take k xs)) ≡ start (unit_sizes xs) k
   unfolding start
   length_before xs k = length-joined (take k xs) ∙ ap sum (map-take (λ (x : A). length (f x)) k xs)
 
@@ -113,7 +113,7 @@ module _ {A : Type 0} (f : A → List ℕ) where
   up_to : (xs : List A) (first end : ℕ) → first ≤ end → flat_map f (take end xs) ≡ flat_map f (take first xs) ++ flat_map f (slice first end xs)
   up_to xs first end h =
       ap (flat_map f) (sym (take-append-drop first (take end xs)))
-      ∙ flatMap-append f (take first (take end xs)) (slice first end xs)
+      ∙ flat_map-append f (take first (take end xs)) (slice first end xs)
       ∙ ap (λ (l : List A). flat_map f l ++ flat_map f (slice first end xs)) (take-take first end xs h)
 
   -- before the first, from the first to the last, after the last
@@ -121,25 +121,25 @@ module _ {A : Type 0} (f : A → List ℕ) where
       → flat_map f xs ≡ flat_map f (take first xs) ++ (flat_map f (slice first end xs) ++ flat_map f (drop end xs))
   in_parts xs first end h =
       ap (flat_map f) (sym (take-append-drop end xs))
-      ∙ flatMap-append f (take end xs) (drop end xs)
+      ∙ flat_map-append f (take end xs) (drop end xs)
       ∙ ap (λ (l : List ℕ). l ++ flat_map f (drop end xs)) (up_to xs first end h)
       ∙ append_assoc (flat_map f (take first xs)) (flat_map f (slice first end xs)) (flat_map f (drop end xs))
 
-  module _ (xs : List A) (ss : List ℕ) (given : unitSizes xs ≡ ss) (w : Window) (out : List ℕ)
+  module _ (xs : List A) (ss : List ℕ) (given : unit_sizes xs ≡ ss) (w : Window) (out : List ℕ)
       (cases : Nothing ss w.skip (length out - w.at) ⊎ Some ss w.skip (length out - w.at)) where
     abbrev pub needed : Positions
-    needed = positionsFor ss w.skip (length out - w.at)
+    needed = positions_for ss w.skip (length out - w.at)
 
     abbrev pub begin : Window
     begin = record { at = w.at; skip = (place_of ss w.skip).within }
 
     end-joined : length (flat_map f xs) ≡ start ss (length ss)
-    end-joined = length-joined xs ∙ ap sum given ∙ sym (start-all ss (length ss) (omega arith))
+    end-joined = length-joined xs ∙ ap sum given ∙ sym (start_all ss (length ss) (omega arith))
 
     part-nothing : Nothing ss w.skip (length out - w.at) → Part (flat_map f xs) (flat_map f (between needed xs)) w begin out
     unfolding flat_map
     part-nothing e =
-        rw (positions-none ss w.skip (length out - w.at) e)
+        rw (positions_none ss w.skip (length out - w.at) e)
         (part_none (flat_map f xs) w (place_of ss w.skip).within out (⊎_elim inl (λ l. inr (rw end-joined l)) e))
 
     within-is : (first : ℕ) → first < length ss → start ss first ≤ w.skip → w.skip < start ss (suc first) → (place_of ss w.skip).within ≡ w.skip - start ss first
@@ -150,8 +150,8 @@ module _ {A : Type 0} (f : A → List ℕ) where
     before-is : (k : ℕ) → length (flat_map f (take k xs)) ≡ start ss k
     before-is k = length_before xs k ∙ ap (λ (l : List ℕ). start l k) given
 
-    middle-is : (first end : ℕ) → first ≤ end → start ss first + length (flat_map f (slice first end xs)) ≡ start ss end
-    middle-is first end h =
+    middle_is : (first end : ℕ) → first ≤ end → start ss first + length (flat_map f (slice first end xs)) ≡ start ss end
+    middle_is first end h =
         let a : length (flat_map f (take end xs)) ≡ length (flat_map f (take first xs)) + length (flat_map f (slice first end xs)) =
         ap length (up_to xs first end h) ∙ length-append (flat_map f (take first xs)) (flat_map f (slice first end xs)) in
         let b = before-is first in
@@ -168,13 +168,13 @@ module _ {A : Type 0} (f : A → List ℕ) where
         let ordered = t.ordered in
         let known = t.known in
         let b = before-is first in
-        let m = middle-is first end (omega arith) in
+        let m = middle_is first end (omega arith) in
         let n : length ss ≡ length xs = ap length (sym given) ∙ length-map xs (λ (x : A). length (f x)) in
         let q : Part (flat_map f (take first xs) ++ (flat_map f (slice first end xs) ++ flat_map f (drop end xs))) (flat_map f (slice first end xs)) w
         (record { at = w.at; skip = w.skip - start ss first }) out =
         part-some (flat_map f (take first xs)) (flat_map f (slice first end xs)) (flat_map f (drop end xs)) w (w.skip - start ss first) out (omega arith)
         (⊎_elim (λ l. inl (omega arith)) (λ e. inr (after_last xs end (omega arith))) t.full) in
-        rw (positions-are ss w.skip (length out - w.at) t, in_parts xs first end (omega arith), within-is first (omega arith) low high) q
+        rw (positions_are ss w.skip (length out - w.at) t, in_parts xs first end (omega arith), within-is first (omega arith) low high) q
 
     -- what a read shows of the sound it shows of the units that it needs
     pub part : Part (flat_map f xs) (flat_map f (between needed xs)) w begin out
@@ -189,7 +189,7 @@ module _ {A : Type 0} (f : A → List ℕ) where
         (λ g.
         let k = g.known in
         let h = g.high in
-        let m = start-mono ss (suc g.position) (length ss) k in
+        let m = start_mono ss (suc g.position) (length ss) k in
         rw (position-is ss w.skip g.position k g.low h, lt-ltb g.position n (omega arith)) (omega arith))
         (λ l. rw (position-end ss w.skip l, le-ltb (length ss) n (omega arith)) (omega arith))
         (found ss w.skip)
@@ -206,11 +206,11 @@ module _ {A : Type 0} (f : A → List ℕ) where
         }
 
   -- units that a read does not need make no difference
-  pub part-real : (xs ys : List A) (ss : List ℕ) → unitSizes xs ≡ ss → unitSizes ys ≡ ss → (w : Window) (out : List ℕ)
+  pub part_real : (xs ys : List A) (ss : List ℕ) → unit_sizes xs ≡ ss → unit_sizes ys ≡ ss → (w : Window) (out : List ℕ)
       → Nothing ss w.skip (length out - w.at) ⊎ Some ss w.skip (length out - w.at)
-      → flat_map f (between (positionsFor ss w.skip (length out - w.at)) xs) ≡ flat_map f (between (positionsFor ss w.skip (length out - w.at)) ys)
+      → flat_map f (between (positions_for ss w.skip (length out - w.at)) xs) ≡ flat_map f (between (positions_for ss w.skip (length out - w.at)) ys)
       → {last : List ℕ} {r : Fill} → Filling true (flat_map f xs) w out last r → Filling true (flat_map f ys) w out last r
-  part-real xs ys ss ex ey w out cases e q =
+  part_real xs ys ss ex ey w out cases e q =
       let l : length (flat_map f xs) ≡ length (flat_map f ys) = length-joined xs ∙ ap sum (ex ∙ sym ey) ∙ sym (length-joined ys) in
       record {
         answer = q.answer ∙ ap (λ (n : ℕ). Filled (after n (length out) w)) l;

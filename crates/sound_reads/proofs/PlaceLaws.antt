@@ -1,4 +1,4 @@
--- The laws of `positionAt` and `place_of` of specs/Place.antt: where a place is, and that a walk finds it. Assumes nothing.
+-- The laws of `position_at` and `place_of` of specs/Place.antt: where a place is, and that a walk finds it. Assumes nothing.
 use mathlib.Core.Path.{◌≡◌, refl, ap}
 use mathlib.Core.Logic.{◌⊎◌, inl, inr, ⊎_elim}
 use mathlib.Core.Bool.{Bool, true, false}
@@ -10,38 +10,38 @@ use borrow.Author.Tests.{lt-ltb, le-ltb}
 use lib.Dec.{ltb}
 use lib.ListN.{length, get_or}
 use Rattle.dst.specs.Start.{start}
-use Rattle.sound_reads.specs.Place.{firstWhere, positionAt, place_of}
+use Rattle.sound_reads.specs.Place.{first_where, position_at, place_of}
 use Rattle.sound_reads.specs.Steps.{byte_at, Inside}
-use Rattle.dst.proofs.StartLaws.{start-zero, start-suc, start-mono}
+use Rattle.dst.proofs.StartLaws.{start-zero, start-suc, start_mono}
 use Rattle.window.proofs.TestLaws.{lt-or-le}
 
 -- the first that passes
-pub first-is : (p : ℕ → Bool) (n k : ℕ) → k < n → ((i : ℕ) → i < k → p i ≡ false) → p k ≡ true → firstWhere p n ≡ k
-unfolding firstWhere
+pub first-is : (p : ℕ → Bool) (n k : ℕ) → k < n → ((i : ℕ) → i < k → p i ≡ false) → p k ≡ true → first_where p n ≡ k
+unfolding first_where
 first-is p zero k h fails passes = absurd (not-suc-le-zero h)
 first-is p (suc n) zero h fails passes = rw passes
 first-is p (suc n) (suc k) h fails passes =
     rw (fails 0 (omega arith)) (ap suc (first-is (λ i. p (suc i)) n k (le_of_suc-le-suc h) (λ i g. fails (suc i) (omega arith)) passes))
 
-pub first-none : (p : ℕ → Bool) (n : ℕ) → ((i : ℕ) → i < n → p i ≡ false) → firstWhere p n ≡ n
-unfolding firstWhere
+pub first-none : (p : ℕ → Bool) (n : ℕ) → ((i : ℕ) → i < n → p i ≡ false) → first_where p n ≡ n
+unfolding first_where
 first-none p zero fails = refl
 first-none p (suc n) fails = rw (fails 0 (omega arith)) (ap suc (first-none (λ i. p (suc i)) n (λ i g. fails (suc i) (omega arith))))
 
 module _ (ss : List ℕ) (place : ℕ) where
   -- units that end at or before the place are passed
   passed : (k : ℕ) → start ss k ≤ place → (i : ℕ) → i < k → ltb place (start ss (suc i)) ≡ false
-  passed k h i g = let m = start-mono ss (suc i) k g in le-ltb place (start ss (suc i)) (omega arith)
+  passed k h i g = let m = start_mono ss (suc i) k g in le-ltb place (start ss (suc i)) (omega arith)
 
-  pub position-is : (k : ℕ) → k < length ss → start ss k ≤ place → place < start ss (suc k) → positionAt ss place ≡ k
-  unfolding positionAt
+  pub position-is : (k : ℕ) → k < length ss → start ss k ≤ place → place < start ss (suc k) → position_at ss place ≡ k
+  unfolding position_at
   position-is k h l u = first-is (λ i. ltb place (start ss (suc i))) (length ss) k h (passed k l) (lt-ltb place (start ss (suc k)) u)
 
-  pub position-end : start ss (length ss) ≤ place → positionAt ss place ≡ length ss
-  unfolding positionAt
+  pub position-end : start ss (length ss) ≤ place → position_at ss place ≡ length ss
+  unfolding position_at
   position-end l = first-none (λ i. ltb place (start ss (suc i))) (length ss) (passed (length ss) l)
 
-  place_at : (k within : ℕ) → positionAt ss place ≡ k → start ss k + within ≡ place → record { position = k; within = within } ≡ place_of ss place
+  place_at : (k within : ℕ) → position_at ss place ≡ k → start ss k + within ≡ place → record { position = k; within = within } ≡ place_of ss place
   unfolding place_of
   place_at k within e b = rw (e, ← b, add-sub_cancel_left (start ss k) within)
 
@@ -75,9 +75,9 @@ module _ (ss : List ℕ) (place : ℕ) where
   found = walk (length ss) (omega arith)
 
   -- what a walk finds is the place
-  pub byte-at : byte_at ss (place_of ss place) ≡ place
+  pub byte_at_lem : byte_at ss (place_of ss place) ≡ place
   unfolding place_of
-  byte-at =
+  byte_at_lem =
       ⊎_elim
       (λ f. let h = f.low in rw (position-is f.position f.known f.low f.high) (omega arith))
       (λ l. rw (position-end l) (omega arith))

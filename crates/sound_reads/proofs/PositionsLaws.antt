@@ -1,4 +1,4 @@
--- The laws of `positionsFor` of specs/Positions.antt: which positions so many bytes from a place on touch. Assumes nothing.
+-- The laws of `positions_for` of specs/Positions.antt: which positions so many bytes from a place on touch. Assumes nothing.
 use mathlib.Core.Path.{◌≡◌, refl, sym}
 use mathlib.Core.Logic.{◌⊎◌, inl, inr, ⊎_elim}
 use mathlib.Core.Bool.{Bool, true, false, ◌||◌}
@@ -11,16 +11,16 @@ use lib.Dec.{eqb, leb}
 use lib.ListN.{length, get_or}
 use Rattle.sound_reads.specs.declared.place.Place.{Place}
 use Rattle.dst.specs.Start.{start}
-use Rattle.sound_reads.specs.Place.{firstWhere}
+use Rattle.sound_reads.specs.Place.{first_where}
 use Rattle.sound_reads.specs.Steps.{byte_at}
-use Rattle.sound_reads.specs.Positions.{touched, pastLast, range, positionsFor}
-use Rattle.dst.proofs.StartLaws.{start-suc, start-mono}
+use Rattle.sound_reads.specs.Positions.{touched, past_last, range, positions_for}
+use Rattle.dst.proofs.StartLaws.{start-suc, start_mono}
 use Rattle.window.proofs.TestLaws.{either, neither, lt-or-le}
 use Rattle.sound_reads.proofs.PlaceLaws.{first-is, Found, found}
 
 -- the last that passes
-past_is : (p : ℕ → Bool) (n k : ℕ) → k < n → ((i : ℕ) → k < i → i < n → p i ≡ false) → p k ≡ true → pastLast p n ≡ suc k
-unfolding pastLast
+past_is : (p : ℕ → Bool) (n k : ℕ) → k < n → ((i : ℕ) → k < i → i < n → p i ≡ false) → p k ≡ true → past_last p n ≡ suc k
+unfolding past_last
 past_is p zero k h fails passes = absurd (not-suc-le-zero h)
 past_is p (suc n) k h fails passes =
     ⊎_elim
@@ -28,16 +28,16 @@ past_is p (suc n) k h fails passes =
     (λ l. let e : k ≡ n = omega arith in rw (← e, passes))
     (lt-or-le k n)
 
-past-none : (p : ℕ → Bool) (n : ℕ) → ((i : ℕ) → i < n → p i ≡ false) → pastLast p n ≡ 0
-unfolding pastLast
-past-none p zero fails = refl
-past-none p (suc n) fails = rw (fails n (omega arith)) (past-none p n (λ i g. fails i (omega arith)))
+past_none : (p : ℕ → Bool) (n : ℕ) → ((i : ℕ) → i < n → p i ≡ false) → past_last p n ≡ 0
+unfolding past_last
+past_none p zero fails = refl
+past_none p (suc n) fails = rw (fails n (omega arith)) (past_none p n (λ i g. fails i (omega arith)))
 
-range-is : (p : ℕ → Bool) (n first last : ℕ) → firstWhere p n ≡ first → pastLast p n ≡ suc last → range p n ≡ record { first = first; end = suc last }
+range-is : (p : ℕ → Bool) (n first last : ℕ) → first_where p n ≡ first → past_last p n ≡ suc last → range p n ≡ record { first = first; end = suc last }
 unfolding range
 range-is p n first last f e = rw (e, f, lt-ltb 0 (suc last) (omega arith))
 
-range_none : (p : ℕ → Bool) (n : ℕ) → pastLast p n ≡ 0 → range p n ≡ record { first = 0; end = 0 }
+range_none : (p : ℕ → Bool) (n : ℕ) → past_last p n ≡ 0 → range p n ≡ record { first = 0; end = 0 }
 unfolding range
 range_none p n e = rw e
 
@@ -70,33 +70,33 @@ module _ (ss : List ℕ) (from count : ℕ) where
     pub sized : start ss last < start ss (suc last)
     pub full : (from + count ≤ start ss (suc last)) ⊎ (suc last ≡ length ss)
 
-  pub positions-are : {first last : ℕ} → Touch first last → positionsFor ss from count ≡ record { first = first; end = suc last }
-  unfolding positionsFor
-  positions-are {first} {last} t =
+  pub positions_are : {first last : ℕ} → Touch first last → positions_for ss from count ≡ record { first = first; end = suc last }
+  unfolding positions_for
+  positions_are {first} {last} t =
       let low = t.low in
       let high = t.high in
       let wanted = t.wanted in
       let ordered = t.ordered in
       let known = t.known in
-      let up = start-mono ss (suc first) (suc last) (omega arith) in
+      let up = start_mono ss (suc first) (suc last) (omega arith) in
       range-is (touched ss from count) (length ss) first last
       (first-is (touched ss from count) (length ss) first (omega arith)
-      (λ i h. let m = start-mono ss (suc i) first h in apart i (omega arith))
+      (λ i h. let m = start_mono ss (suc i) first h in apart i (omega arith))
       (met first (omega arith) high (omega arith) wanted))
       (past_is (touched ss from count) (length ss) last known
-      (λ i a b. ⊎_elim (λ l. let m = start-mono ss (suc last) i a in beyond i (omega arith)) (λ e. absurd (omega arith)) t.full)
+      (λ i a b. ⊎_elim (λ l. let m = start_mono ss (suc last) i a in beyond i (omega arith)) (λ e. absurd (omega arith)) t.full)
       (met last t.sized (omega arith) t.begun wanted))
 
   -- no byte is wanted, or the sound ends before the place
   abbrev pub Nothing : Type 0
   Nothing = (count ≡ 0) ⊎ (start ss (length ss) ≤ from)
 
-  pub positions-none : Nothing → positionsFor ss from count ≡ record { first = 0; end = 0 }
-  unfolding positionsFor
-  positions-none e =
+  pub positions_none : Nothing → positions_for ss from count ≡ record { first = 0; end = 0 }
+  unfolding positions_for
+  positions_none e =
       range_none (touched ss from count) (length ss)
-      (past-none (touched ss from count) (length ss)
-      (λ i h. ⊎_elim (λ z. idle i z) (λ l. let m = start-mono ss (suc i) (length ss) h in apart i (omega arith)) e))
+      (past_none (touched ss from count) (length ss)
+      (λ i h. ⊎_elim (λ z. idle i z) (λ l. let m = start_mono ss (suc i) (length ss) h in apart i (omega arith)) e))
 
   -- units from a first to a last
   pub record Some : Type 0 where
@@ -105,15 +105,15 @@ module _ (ss : List ℕ) (from count : ℕ) where
     pub touch : Touch first last
 
   -- the needed positions are positions of the sound
-  pub positions-known : Nothing ⊎ Some → ((positionsFor ss from count).first ≤ (positionsFor ss from count).end) × ((positionsFor ss from count).end ≤ length ss)
-  positions-known =
+  pub positions_known : Nothing ⊎ Some → ((positions_for ss from count).first ≤ (positions_for ss from count).end) × ((positions_for ss from count).end ≤ length ss)
+  positions_known =
       ⊎_elim
-      (λ e. rw (positions-none e) (omega arith, omega arith))
+      (λ e. rw (positions_none e) (omega arith, omega arith))
       (λ s.
       let t = s.touch in
       let ordered = t.ordered in
       let known = t.known in
-      rw (positions-are t) (omega arith, omega arith))
+      rw (positions_are t) (omega arith, omega arith))
 
   some : (f : Found ss from) → 0 < count → (last : ℕ) → last < length ss → start ss last ≤ from + (count - 1) → start ss last < start ss (suc last)
       → (from + count ≤ start ss (suc last)) ⊎ (suc last ≡ length ss) → Some
@@ -123,7 +123,7 @@ module _ (ss : List ℕ) (from count : ℕ) where
       let known = f.known in
       let ordered : f.position ≤ last =
       ⊎_elim
-      (λ h. ⊎_elim (λ e. let m = start-mono ss (suc last) f.position h in absurd (omega arith)) (λ e. absurd (omega arith)) u)
+      (λ h. ⊎_elim (λ e. let m = start_mono ss (suc last) f.position h in absurd (omega arith)) (λ e. absurd (omega arith)) u)
       (λ h. h)
       (lt-or-le last f.position) in
       record {
@@ -144,7 +144,7 @@ module _ (ss : List ℕ) (from count : ℕ) where
         (λ g. let h = g.high in some f c g.position g.known g.low (grows g.position g.known) (inl (omega arith)))
         (λ l.
         let n : suc (length ss - 1) ≡ length ss = omega arith in
-        let m = start-mono ss (length ss - 1) (length ss) (omega arith) in
+        let m = start_mono ss (length ss - 1) (length ss) (omega arith) in
         some f c (length ss - 1) (omega arith) (omega arith) (grows (length ss - 1) (omega arith)) (inr n))
         (found ss (from + (count - 1)))
 
@@ -157,15 +157,15 @@ module _ (ss : List ℕ) (from count : ℕ) where
 
 -- the test for nothing to be touched: no byte is wanted, or the place is past the last of n positions
 pub none-touched : (ss : List ℕ) (a : Place) (count n : ℕ) → length ss ≡ n → eqb count 0 || leb n a.position ≡ true
-    → record { first = 0; end = 0 } ≡ positionsFor ss (byte_at ss a) count
+    → record { first = 0; end = 0 } ≡ positions_for ss (byte_at ss a) count
 none-touched ss a count n e h =
     sym
-    (positions-none ss (byte_at ss a) count
+    (positions_none ss (byte_at ss a) count
     (⊎_elim
     (λ z. inl (eqb-true count 0 z))
     (λ l.
     let k = leb-true n a.position l in
-    let m = start-mono ss (length ss) a.position (omega arith) in
+    let m = start_mono ss (length ss) a.position (omega arith) in
     inr (omega arith))
     (either (eqb count 0) (leb n a.position) h)))
 

@@ -4,24 +4,24 @@ use Rattle.std.specs.Prelude.{ℕ, zero, suc, ◌+◌, ◌-◌, min, max, Bool, 
 use Rattle.std.proofs.Math.Seq.{slice}
 use Rattle.sound_reads.specs.declared.place.Positions.{Positions}
 use Rattle.dst.specs.Start.{start}
-use Rattle.sound_reads.specs.Place.{firstWhere}
+use Rattle.sound_reads.specs.Place.{first_where}
 
 -- whether so many bytes from a place on have one of the unit of position i
 unfoldable pub touched : List ℕ → ℕ → ℕ → ℕ → Bool
 touched ss from count i = ltb (max (start ss i) from) (min (start ss (suc i)) (from + count))
 
 -- one past the last position below n that passes a test, 0 if none does
-unfoldable pub pastLast : (ℕ → Bool) → ℕ → ℕ
-pastLast p zero = 0
-pastLast p (suc n) = cond (p n) (suc n) (pastLast p n)
+unfoldable pub past_last : (ℕ → Bool) → ℕ → ℕ
+past_last p zero = 0
+past_last p (suc n) = cond (p n) (suc n) (past_last p n)
 
 -- the positions below n from the first to the last that pass a test
 unfoldable pub range : (ℕ → Bool) → ℕ → Positions
-range p n = record { first = cond (ltb 0 (pastLast p n)) (firstWhere p n) 0; end = pastLast p n }
+range p n = record { first = cond (ltb 0 (past_last p n)) (first_where p n) 0; end = past_last p n }
 
 -- the positions that a read of so many bytes from a place of the sound on needs, by the units' sizes
-unfoldable pub positionsFor : List ℕ → ℕ → ℕ → Positions
-positionsFor ss from count = range (touched ss from count) (length ss)
+unfoldable pub positions_for : List ℕ → ℕ → ℕ → Positions
+positions_for ss from count = range (touched ss from count) (length ss)
 
 -- how many positions
 abbrev pub number : Positions → ℕ

@@ -2,7 +2,7 @@
 ghost use Rattle.std.specs.Prelude.{◌≡◌, ◌-◌, ◌*◌, ◌^◌, min, cond, eqb, ltb};
 ghost use Rattle.chunk_names.specs.Name.{same};
 ghost use Rattle.dst.specs.Start.{sum};
-ghost use Rattle.sound_reads.specs.Lent.{isLent};
+ghost use Rattle.sound_reads.specs.Lent.{is_lent};
 ghost use Rattle.sound_reads.specs.declared.lent.Fill.TheVariants.{Filled};
 
 use crate::place::Place;
@@ -72,7 +72,7 @@ fn is_times(bytes: usize, w: usize, n: usize) -> bool
 
 // Whether what is lent for positions of these lengths is theirs: the same lengths, as many DST bytes, and w bytes of content for each.
 pub fn is_lent(needed: &[u32], lengths: &[u32], frames: &[u8], w: usize, contents: &[u8]) -> bool
-    ensures { result ≡ isLent w needed.now lengths.now frames.now contents.now }
+    ensures { result ≡ is_lent w needed.now lengths.now frames.now contents.now }
 {
     same_lengths(lengths, needed)
         & (joined(needed) == frames.len() as u64)

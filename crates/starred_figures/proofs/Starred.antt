@@ -3,64 +3,64 @@ use mathlib.Core.Path.{refl}
 use mathlib.Core.List.{flat_map}
 use Rattle.chunk.specs.Number.{be, num}
 use Rattle.chunk.specs.Chunk.{pad, chunk, counts, occupied}
-use Rattle.chunk.specs.Rows.{firstRows, rows}
-use Rattle.frame_time.specs.Time.{timeOf}
+use Rattle.chunk.specs.Rows.{first_rows, rows}
+use Rattle.frame_time.specs.Time.{time_of}
 use Rattle.tree.specs.Tree.{bytes, join, each}
-use Rattle.checksum.specs.Crc.{bit, bits, byte_of, bytes_of, crcOf}
+use Rattle.checksum.specs.Crc.{bit, bits, byte_of, bytes_of, crc_of}
 use Rattle.texts.specs.Extent.{part}
 use Rattle.texts.specs.Text.{printable}
-use Rattle.comt.specs.Comment.{writtenComments, hasComt, comt}
-use Rattle.dst.specs.Frame.{frameBytes}
-use Rattle.dst.specs.Unit.{unitSize}
+use Rattle.comt.specs.Comment.{written_comments, has_comt, comt}
+use Rattle.dst.specs.Frame.{frame_bytes}
+use Rattle.dst.specs.Unit.{unit_size}
 use Rattle.dst.specs.Start.{sum, start}
-use Rattle.dst.specs.Head.{rate, frte, dataSize, head}
+use Rattle.dst.specs.Head.{rate, frte, data_size, head}
 use Rattle.dst_index.specs.Index.{entry, joined, index, dsti}
-use Rattle.prop_fields.specs.Layout.{channelCount, sixNames, channelNames, speakerCode}
-use Rattle.prop_fields.specs.Start.{isGiven, startFrame}
-use Rattle.prop_fields.specs.Compression.{compressionData, cmprData}
-use Rattle.prop.specs.Property.{chnlData, id_of, contentOf, isPropertyWritten, propertyChunk, property}
-use Rattle.master_info.specs.Diin.{hasDiin, diin}
+use Rattle.prop_fields.specs.Layout.{channel_count, six_names, channel_names, speaker_code}
+use Rattle.prop_fields.specs.Start.{is_given, start_frame}
+use Rattle.prop_fields.specs.Compression.{compression_data, cmpr_data}
+use Rattle.prop.specs.Property.{chnl_data, id_of, content_of, is_property_written, property_chunk, property}
+use Rattle.master_info.specs.Diin.{has_diin, diin}
 use Rattle.refusal.specs.Below.{below}
-use Rattle.refusal.specs.Orders.{times, eachOnce}
-use Rattle.rows.specs.Lengths.{lengthsWrong}
-use Rattle.row_extents.specs.Extents.{tooLarge, outsidePool}
-use Rattle.rows.specs.Scalars.{hasNoScalar, noScalars}
-use Rattle.faults.specs.Caller.{callerFaults}
-use Rattle.comment_faults.specs.Comments.{commentFaults}
+use Rattle.refusal.specs.Orders.{times, each_once}
+use Rattle.rows.specs.Lengths.{lengths_wrong}
+use Rattle.row_extents.specs.Extents.{too_large, outside_pool}
+use Rattle.rows.specs.Scalars.{has_no_scalar, no_scalars}
+use Rattle.faults.specs.Caller.{caller_faults}
+use Rattle.comment_faults.specs.Comments.{comment_faults}
 use Rattle.build_options.specs.Options.{defaults, effective}
-use Rattle.rules.specs.Limits.{anyTooLarge, anyOutside, anyNoScalar, limitFaults}
-use Rattle.area_rules.specs.Area.{areaFault, lengthsFault, rangeFault, areaFaults}
-use Rattle.area_rules.specs.Master.{sourceFault, editedMasterFault, trackFaults}
-use Rattle.rules.specs.Property.{numbersFault, startFault, propertyFaults}
-use Rattle.rules.specs.Info.{infoFaults}
-use Rattle.local_rules.specs.Local.{lacksAny, localFaults}
-use Rattle.checks.specs.InputVerdict.{givenFaults, chunkFaults, verdict}
-use Rattle.file_tree.specs.Sound.{soundSize, soundHead}
-use Rattle.caller_chunks.specs.Caller.{callerChunks}
-use Rattle.file_tree.specs.Sides.{before, behind, localBytes, front, back}
-use Rattle.file_tree.specs.File.{place, headerOf, trailerOf}
+use Rattle.rules.specs.Limits.{any_too_large, any_outside, any_no_scalar, limit_faults}
+use Rattle.area_rules.specs.Area.{area_fault, lengths_fault, range_fault, area_faults}
+use Rattle.area_rules.specs.Master.{source_fault, edited_master_fault, track_faults}
+use Rattle.rules.specs.Property.{numbers_fault, start_fault, property_faults}
+use Rattle.rules.specs.Info.{info_faults}
+use Rattle.local_rules.specs.Local.{lacks_any, local_faults}
+use Rattle.checks.specs.InputVerdict.{given_faults, chunk_faults, verdict}
+use Rattle.file_tree.specs.Sound.{sound_size, sound_head}
+use Rattle.caller_chunks.specs.Caller.{caller_chunks}
+use Rattle.file_tree.specs.Sides.{before, behind, local_bytes, front, back}
+use Rattle.file_tree.specs.File.{place, header_of, trailer_of}
 use Rattle.starred_figures.specs.StarredFigures.{StarredFigures}
 
 pub starred : StarredFigures
-unfolding flat_map be num pad chunk counts occupied firstRows rows timeOf bytes join each bit bits byte_of bytes_of crcOf part printable writtenComments hasComt comt frameBytes unitSize sum start rate frte dataSize head entry joined index dsti channelCount sixNames channelNames speakerCode isGiven startFrame compressionData cmprData chnlData id_of contentOf isPropertyWritten propertyChunk property hasDiin diin below times eachOnce lengthsWrong tooLarge outsidePool hasNoScalar noScalars callerFaults commentFaults defaults effective anyTooLarge anyOutside anyNoScalar limitFaults areaFault lengthsFault rangeFault areaFaults sourceFault editedMasterFault trackFaults numbersFault startFault propertyFaults infoFaults lacksAny localFaults givenFaults chunkFaults verdict soundSize soundHead callerChunks before behind localBytes front back place headerOf trailerOf
+unfolding flat_map be num pad chunk counts occupied first_rows rows time_of bytes join each bit bits byte_of bytes_of crc_of part printable written_comments has_comt comt frame_bytes unit_size sum start rate frte data_size head entry joined index dsti channel_count six_names channel_names speaker_code is_given start_frame compression_data cmpr_data chnl_data id_of content_of is_property_written property_chunk property has_diin diin below times each_once lengths_wrong too_large outside_pool has_no_scalar no_scalars caller_faults comment_faults defaults effective any_too_large any_outside any_no_scalar limit_faults area_fault lengths_fault range_fault area_faults source_fault edited_master_fault track_faults numbers_fault start_fault property_faults info_faults lacks_any local_faults given_faults chunk_faults verdict sound_size sound_head caller_chunks before behind local_bytes front back place header_of trailer_of
 starred = record {
-  dsd-prop = refl;
+  dsd_prop = refl;
   dsd-header = refl;
   dsd-form = refl;
   dsd-file = refl;
   cmpr-19 = refl;
   cmpr-20 = refl;
-  d1-form = refl;
-  d1-only = refl;
+  d1_form = refl;
+  d1_only = refl;
   dst-header = refl;
   dst-size = refl;
   dst-form = refl;
   dst-file = refl;
   entries = refl;
-  entries-data = refl;
+  entries_data = refl;
   entries-crc = refl;
   crc-file = refl;
-  last-time = refl;
+  last_time = refl;
   start-passes = refl;
   start-is-29 = refl;
   crc-one = refl;

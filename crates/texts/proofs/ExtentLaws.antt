@@ -10,8 +10,8 @@ use Rattle.texts.specs.Extent.{part}
 use Rattle.texts.specs.declared.extent.Extent.{Extent}
 
 -- what is there of so many elements
-take-fit : (k : ℕ) (l : List ℕ) → take (min k (length l)) l ≡ take k l
-take-fit k l = go (dec_le k (length l))
+take_fit : (k : ℕ) (l : List ℕ) → take (min k (length l)) l ≡ take k l
+take_fit k l = go (dec_le k (length l))
   where
     go : Dec (k ≤ length l) → take (min k (length l)) l ≡ take k l
     go (yes h) = let all : min k (length l) ≡ k = omega arith in rw all
@@ -22,10 +22,10 @@ unfolding part
 length_part pool e = rw (length-take) (omega arith)
 
 -- the places that an extent has in a pool hold its part
-pub part-places : (pool : List ℕ) (e : Extent)
+pub part_places : (pool : List ℕ) (e : Extent)
     → take (min (e.start + e.length) (length pool) - min e.start (length pool)) (drop (min e.start (length pool)) pool) ≡ part pool e
 unfolding part
-part-places pool e = go (dec_le e.start (length pool))
+part_places pool e = go (dec_le e.start (length pool))
   where
     n : ℕ
     n = length pool
@@ -34,6 +34,6 @@ part-places pool e = go (dec_le e.start (length pool))
     go (yes l) =
         let first : min e.start n ≡ e.start = omega arith in
         let count : min (e.start + e.length) n - e.start ≡ min e.length (length (drop e.start pool)) = rw (length-drop) (omega arith) in
-        rw (first, count) (take-fit e.length (drop e.start pool))
+        rw (first, count) (take_fit e.length (drop e.start pool))
     go (no l) =
         rw (drop_of_length-le pool {i = min e.start n} (omega arith), drop_of_length-le pool {i = e.start} (omega arith)) (take-nil (min (e.start + e.length) n - min e.start n) ∙ sym (take-nil e.length))

@@ -28,17 +28,17 @@ substitute Remove = []
 substitute D2 = []
 
 -- what a value is written as: one byte or none
-unfoldable pub textByte : TextRule → ℕ → List ℕ
-textByte rule c = cond (passes rule c) (c ∷ []) (substitute rule)
+unfoldable pub text_byte : TextRule → ℕ → List ℕ
+text_byte rule c = cond (passes rule c) (c ∷ []) (substitute rule)
 
 -- what a text is written as
-unfoldable pub textBytes : TextRule → List ℕ → List ℕ
-textBytes rule text = flat_map (textByte rule) text
+unfoldable pub text_bytes : TextRule → List ℕ → List ℕ
+text_bytes rule text = flat_map (text_byte rule) text
 
 -- whether a text of so many bytes is written (01: "Empty converted texts are skipped unless empty text is on")
 unfoldable pub is_written : TextOptions → ℕ → Bool
 is_written o count = o.empty_text || not (eqb count 0)
 
 -- the pad after a text of so many bytes, if it is counted: inside the chunk's size (01: "the pad inside the size if pad-counted")
-unfoldable pub textPad : TextOptions → ℕ → List ℕ
-textPad o count = cond o.text_pad_counted (pad count) []
+unfoldable pub text_pad : TextOptions → ℕ → List ℕ
+text_pad o count = cond o.text_pad_counted (pad count) []

@@ -3,7 +3,7 @@ ghost use Rattle.std.specs.Prelude.{◌≡◌, ◌++◌, length};
 ghost use Rattle.chunk.specs.Append.{Appended};
 ghost use Rattle.chunk.specs.Number.{be};
 ghost use Rattle.texts.specs.Extent.{part};
-ghost use Rattle.texts.specs.Text.{printable, latin1, passes, substitute, textByte, textBytes, textPad, is_written};
+ghost use Rattle.texts.specs.Text.{printable, latin1, passes, substitute, text_byte, text_bytes, text_pad, is_written};
 
 use crate::extent::Extent;
 use chunk::Cursor;
@@ -66,7 +66,7 @@ pub fn passes(rule: TextRule, c: u32) -> bool
 
 // How many bytes a text is written as.
 pub fn text_count(rule: TextRule, pool: &[u32], text: Extent) -> u32
-    ensures { result ≡ length (textBytes rule (part pool.now text)) }
+    ensures { result ≡ length (text_bytes rule (part pool.now text)) }
 {
     let mut empty = [0u8; 0];
     let c = Cursor::new();
@@ -76,7 +76,7 @@ pub fn text_count(rule: TextRule, pool: &[u32], text: Extent) -> u32
 
 // A text's bytes.
 pub fn text_bytes(c: Cursor, out: &mut [u8], rule: TextRule, pool: &[u32], text: Extent) -> Cursor
-    ensures { Appended out.old c.at (textBytes rule (part pool.now text)) out.new result.at }
+    ensures { Appended out.old c.at (text_bytes rule (part pool.now text)) out.new result.at }
 {
     let first = text.first(pool.len());
     let end = text.end(pool.len());
@@ -92,7 +92,7 @@ pub fn counted_text(
     pool: &[u32],
     text: Extent,
 ) -> Cursor
-    ensures { Appended out.old c.at (be 4 count ++ textBytes rule (part pool.now text)) out.new result.at }
+    ensures { Appended out.old c.at (be 4 count ++ text_bytes rule (part pool.now text)) out.new result.at }
 {
     let c = c.be32(out, count);
     text_bytes(c, out, rule, pool, text)
@@ -100,7 +100,7 @@ pub fn counted_text(
 
 // The pad after a text of so many bytes, if it is counted.
 pub fn text_pad(c: Cursor, out: &mut [u8], count: u32, options: TextOptions) -> Cursor
-    ensures { Appended out.old c.at (textPad options count) out.new result.at }
+    ensures { Appended out.old c.at (text_pad options count) out.new result.at }
 {
     if options.text_pad_counted {
         return c.pad(out, count as u64);
@@ -110,7 +110,7 @@ pub fn text_pad(c: Cursor, out: &mut [u8], count: u32, options: TextOptions) -> 
 
 // The bytes of values, one value after the other.
 fn text_values(c: Cursor, out: &mut [u8], rule: TextRule, values: &[u32]) -> Cursor
-    ensures { Appended out.old c.at (textBytes rule values.now) out.new result.at }
+    ensures { Appended out.old c.at (text_bytes rule values.now) out.new result.at }
 {
     let mut c = c;
     let mut i = 0;
@@ -123,7 +123,7 @@ fn text_values(c: Cursor, out: &mut [u8], rule: TextRule, values: &[u32]) -> Cur
 
 // One value: one byte or none.
 fn text_byte(c: Cursor, out: &mut [u8], rule: TextRule, value: u32) -> Cursor
-    ensures { Appended out.old c.at (textByte rule value) out.new result.at }
+    ensures { Appended out.old c.at (text_byte rule value) out.new result.at }
 {
     if passes(rule, value) {
         return c.byte(out, value as u8);

@@ -3,10 +3,10 @@ use mathlib.Core.Path.{◌≡◌, refl}
 use mathlib.Core.Bool.{true, false}
 use mathlib.Core.List.{List, [], ◌∷◌, flat_map}
 use Prim.Native.Nat.{ℕ}
-use Rattle.chunk.specs.Rows.{firstRows, rows}
-use Rattle.tracks.specs.Track.{span_of, spans, clip, hasFrames, kept, clipped, inOrder, allHaveFrames, exact, anySpans}
-use Rattle.track_markers.specs.Program.{marker, trackStart, trackStop, stopUnless, trackMarkers, program, fromToc}
-use Rattle.tracks.specs.Order.{isPlayRange, hasProgram}
+use Rattle.chunk.specs.Rows.{first_rows, rows}
+use Rattle.tracks.specs.Track.{span_of, spans, clip, has_frames, kept, clipped, in_order, all_have_frames, exact, any_spans}
+use Rattle.track_markers.specs.Program.{marker, track_start, track_stop, stop_unless, track_markers, program, from_toc}
+use Rattle.tracks.specs.Order.{is_play_range, has_program}
 use Rattle.markers.specs.declared.marker.MarkerKind.TheVariants.{TrackStart, TrackStop, ProgramStart}
 use Rattle.markers.specs.declared.marker.MarkerText.TheVariants.{Empty, Title}
 use Rattle.tracks.specs.declared.order.ProgramOptions.{ProgramOptions}
@@ -28,9 +28,9 @@ both = record {
 }
 
 -- the first track has no stop, as the second starts there
-both-markers : fromToc both (spans words)
+both-markers : from_toc both (spans words)
     ≡ marker 0 ProgramStart Empty ∷ marker 0 TrackStart Empty ∷ marker 75 TrackStart Empty ∷ marker 150 TrackStop Empty ∷ []
-unfolding words both rows firstRows flat_map span_of spans clip hasFrames kept clipped inOrder allHaveFrames exact anySpans trackStart trackStop stopUnless trackMarkers program isPlayRange hasProgram fromToc
+unfolding words both rows first_rows flat_map span_of spans clip has_frames kept clipped in_order all_have_frames exact any_spans track_start track_stop stop_unless track_markers program is_play_range has_program from_toc
 both-markers = refl
 
 -- three tracks with titles, of which the second lies outside the range
@@ -49,11 +49,11 @@ range = record {
 }
 
 -- the third keeps its own title
-third-title : fromToc range (spans three)
+third_title : from_toc range (spans three)
     ≡ marker 0 ProgramStart Empty
     ∷ marker 0 TrackStart (Title (record { start = 10; length = 1 }))
     ∷ marker 5 TrackStart (Title (record { start = 12; length = 1 }))
     ∷ marker 10 TrackStop Empty
     ∷ []
-unfolding three range rows firstRows flat_map span_of spans clip hasFrames kept clipped inOrder allHaveFrames exact anySpans trackStart trackStop stopUnless trackMarkers program isPlayRange hasProgram fromToc
-third-title = refl
+unfolding three range rows first_rows flat_map span_of spans clip has_frames kept clipped in_order all_have_frames exact any_spans track_start track_stop stop_unless track_markers program is_play_range has_program from_toc
+third_title = refl

@@ -5,14 +5,14 @@ use Rattle.markers.specs.declared.marker.MarkerKind.TheVariants.{TrackStop}
 use Rattle.markers.specs.declared.marker.MarkerText.TheVariants.{Empty}
 use Rattle.markers.specs.declared.marker.Marker.{Marker}
 use Rattle.tracks.specs.declared.track.Span.{Span}
-use Rattle.tracks.specs.Track.{hasFrames}
-use Rattle.track_markers.specs.Program.{marker, trackStart}
+use Rattle.tracks.specs.Track.{has_frames}
+use Rattle.track_markers.specs.Program.{marker, track_start}
 
 -- a stop that is still to be written, if there is one
-unfoldable pub stopIf : Bool → ℕ → List Marker
-stopIf pending stop = cond pending (marker stop TrackStop Empty ∷ []) []
+unfoldable pub stop_if : Bool → ℕ → List Marker
+stop_if pending stop = cond pending (marker stop TrackStop Empty ∷ []) []
 
 -- the markers that one span more adds: the last one's stop, unless this one starts there, and its start
-unfoldable pub addedMarkers : Bool → ℕ → Bool → Span → List Marker
-addedMarkers pending stop titles s =
-    cond (hasFrames s) (stopIf (pending && not (eqb stop s.start)) stop ++ (trackStart titles s ∷ [])) []
+unfoldable pub added_markers : Bool → ℕ → Bool → Span → List Marker
+added_markers pending stop titles s =
+    cond (has_frames s) (stop_if (pending && not (eqb stop s.start)) stop ++ (track_start titles s ∷ [])) []

@@ -10,47 +10,47 @@ use Rattle.markers.specs.declared.marker.MarkerText.TheVariants.{Empty, Title}
 use Rattle.markers.specs.declared.marker.Marker.{Marker}
 use Rattle.tracks.specs.declared.track.Span.{Span}
 use Rattle.tracks.specs.declared.order.ProgramOptions.{ProgramOptions}
-use Rattle.tracks.specs.Track.{clipped, anySpans}
-use Rattle.tracks.specs.Order.{hasProgram}
+use Rattle.tracks.specs.Track.{clipped, any_spans}
+use Rattle.tracks.specs.Order.{has_program}
 
 -- a marker without flags
 abbrev pub marker : ℕ → MarkerKind → MarkerText → Marker
 marker frame kind text = record { frame = frame; kind = kind; track_flags = 0; text = text }
 
 -- the start of a span, under the title option with its track's title
-unfoldable pub trackStart : Bool → Span → Marker
-trackStart titles s = marker s.start TrackStart (cond titles (Title s.title) Empty)
+unfoldable pub track_start : Bool → Span → Marker
+track_start titles s = marker s.start TrackStart (cond titles (Title s.title) Empty)
 
-unfoldable pub trackStop : Span → Marker
-trackStop s = marker s.end TrackStop Empty
+unfoldable pub track_stop : Span → Marker
+track_stop s = marker s.end TrackStop Empty
 
 -- the stop of a span, unless the next starts there
-unfoldable pub stopUnless : Span → List Span → List Marker
-stopUnless s [] = trackStop s ∷ []
-stopUnless s (next ∷ _) = cond (eqb next.start s.end) [] (trackStop s ∷ [])
+unfoldable pub stop_unless : Span → List Span → List Marker
+stop_unless s [] = track_stop s ∷ []
+stop_unless s (next ∷ _) = cond (eqb next.start s.end) [] (track_stop s ∷ [])
 
 -- the starts and stops of spans
-unfoldable pub trackMarkers : Bool → List Span → List Marker
-trackMarkers titles [] = []
-trackMarkers titles (s ∷ ss) = trackStart titles s ∷ (stopUnless s ss ++ trackMarkers titles ss)
+unfoldable pub track_markers : Bool → List Span → List Marker
+track_markers titles [] = []
+track_markers titles (s ∷ ss) = track_start titles s ∷ (stop_unless s ss ++ track_markers titles ss)
 
 -- a program that begins at a frame
 unfoldable pub program : ℕ → Bool → List Span → List Marker
-program first titles ss = marker first ProgramStart Empty ∷ trackMarkers titles ss
+program first titles ss = marker first ProgramStart Empty ∷ track_markers titles ss
 
 -- the span of the source track: the tracks are numbered from 1
-unfoldable pub sourceSpan : ProgramOptions → List Span → List Span
-sourceSpan p ss = take 1 (drop (p.source_track - 1) ss)
+unfoldable pub source_span : ProgramOptions → List Span → List Span
+source_span p ss = take 1 (drop (p.source_track - 1) ss)
 
 -- the markers made from a source track
-unfoldable pub sourceMarkers : ProgramOptions → List Span → List Marker
-sourceMarkers p ss =
-    let left = clipped p.first p.end (sourceSpan p ss) in
-    cond (p.source_track_markers && anySpans left) (program p.first p.titles left) []
+unfoldable pub source_markers : ProgramOptions → List Span → List Marker
+source_markers p ss =
+    let left = clipped p.first p.end (source_span p ss) in
+    cond (p.source_track_markers && any_spans left) (program p.first p.titles left) []
 
 -- the markers made from tracks
-unfoldable pub fromToc : ProgramOptions → List Span → List Marker
-fromToc p ss =
+unfoldable pub from_toc : ProgramOptions → List Span → List Marker
+from_toc p ss =
     cond (eqb p.source_track 0)
-    (cond (hasProgram p ss) (program p.first p.titles (clipped p.first p.end ss)) [])
-    (sourceMarkers p ss)
+    (cond (has_program p ss) (program p.first p.titles (clipped p.first p.end ss)) [])
+    (source_markers p ss)

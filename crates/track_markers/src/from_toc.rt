@@ -4,7 +4,7 @@ ghost use Rattle.chunk.specs.Append.{Appended};
 ghost use Rattle.tree.specs.Tree.{bytes, each};
 ghost use Rattle.markers.specs.Marker.{mark};
 ghost use Rattle.tracks.specs.Track.{spans};
-ghost use Rattle.track_markers.specs.Program.{sourceMarkers, fromToc};
+ghost use Rattle.track_markers.specs.Program.{source_markers, from_toc};
 
 use chunk::Cursor;
 use markers::marker::Marking;
@@ -21,7 +21,7 @@ fn from_source(
     p: ProgramOptions,
 ) -> Cursor
     requires { 1 ≤ p.source_track }
-    ensures { Appended out.old c.at (bytes (each (mark pool.now raw.now how) (sourceMarkers p (spans tracks.now)))) out.new result.at }
+    ensures { Appended out.old c.at (bytes (each (mark pool.now raw.now how) (source_markers p (spans tracks.now)))) out.new result.at }
 {
     let number = p.source_track as usize;
     if tracks.len() / tracks::track::WORDS < number {
@@ -46,7 +46,7 @@ pub fn from_toc(
     how: Marking,
     p: ProgramOptions,
 ) -> Cursor
-    ensures { Appended out.old c.at (bytes (each (mark pool.now raw.now how) (fromToc p (spans tracks.now)))) out.new result.at }
+    ensures { Appended out.old c.at (bytes (each (mark pool.now raw.now how) (from_toc p (spans tracks.now)))) out.new result.at }
 {
     if p.source_track != 0 {
         return from_source(c, out, pool, raw, tracks, how, p);

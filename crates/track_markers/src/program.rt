@@ -3,9 +3,9 @@ ghost use Rattle.std.specs.Prelude.{◌≡◌, cond, ◌||◌};
 ghost use Rattle.chunk.specs.Append.{Appended};
 ghost use Rattle.tree.specs.Tree.{bytes, each};
 ghost use Rattle.markers.specs.Marker.{mark};
-ghost use Rattle.tracks.specs.Track.{spans, clipped, hasFrames};
-ghost use Rattle.track_markers.specs.Program.{marker, trackStart, program};
-ghost use Rattle.track_markers.specs.Pass.{stopIf, addedMarkers};
+ghost use Rattle.tracks.specs.Track.{spans, clipped, has_frames};
+ghost use Rattle.track_markers.specs.Program.{marker, track_start, program};
+ghost use Rattle.track_markers.specs.Pass.{stop_if, added_markers};
 ghost use Rattle.markers.specs.declared.marker.MarkerText.TheVariants.{Empty};
 
 use chunk::Cursor;
@@ -23,7 +23,7 @@ struct Written {
 
 // The start of a span.
 fn track_start(titles: bool, s: Span) -> Marker
-    ensures { result ≡ trackStart titles s }
+    ensures { result ≡ track_start titles s }
 {
     if titles {
         let title = s.title;
@@ -57,7 +57,7 @@ fn plain(frame: u32, kind: MarkerKind) -> Marker
 impl Written {
     // The last span's stop, if there is one.
     fn close(self, out: &mut [u8], pool: &[u32], raw: &[u8], how: Marking) -> Cursor
-        ensures { Appended out.old self.end.at (bytes (each (mark pool.now raw.now how) (stopIf self.pending self.stop))) out.new result.at }
+        ensures { Appended out.old self.end.at (bytes (each (mark pool.now raw.now how) (stop_if self.pending self.stop))) out.new result.at }
     {
         let c = self.end;
         if !self.pending {
@@ -83,9 +83,9 @@ impl Written {
         titles: bool,
         s: Span,
     ) -> Written
-        ensures appended { Appended out.old self.end.at (bytes (each (mark pool.now raw.now how) (addedMarkers self.pending self.stop titles s))) out.new result.end.at }
-        ensures pending_value { result.pending ≡ (self.pending || hasFrames s) }
-        ensures stop_value { result.stop ≡ cond (hasFrames s) s.end self.stop }
+        ensures appended { Appended out.old self.end.at (bytes (each (mark pool.now raw.now how) (added_markers self.pending self.stop titles s))) out.new result.end.at }
+        ensures pending_value { result.pending ≡ (self.pending || has_frames s) }
+        ensures stop_value { result.stop ≡ cond (has_frames s) s.end self.stop }
     {
         if !s.has_frames() {
             return self;

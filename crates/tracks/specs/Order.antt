@@ -3,14 +3,14 @@
 use Rattle.std.specs.Prelude.{Bool, cond, ◌&&◌, List, eqb}
 use Rattle.tracks.specs.declared.track.Span.{Span}
 use Rattle.tracks.specs.declared.order.ProgramOptions.{ProgramOptions}
-use Rattle.tracks.specs.Track.{clipped, inOrder, exact, anySpans}
+use Rattle.tracks.specs.Track.{clipped, in_order, exact, any_spans}
 
 -- whether the range is the play range
-unfoldable pub isPlayRange : ProgramOptions → Bool
-isPlayRange p = eqb p.first 0 && eqb p.end p.playtime
+unfoldable pub is_play_range : ProgramOptions → Bool
+is_play_range p = eqb p.first 0 && eqb p.end p.playtime
 
 -- whether tracks without a source track give a program
-unfoldable pub hasProgram : ProgramOptions → List Span → Bool
-hasProgram p ss =
+unfoldable pub has_program : ProgramOptions → List Span → Bool
+has_program p ss =
     let left = clipped p.first p.end ss in
-    anySpans left && (inOrder 0 left && cond (isPlayRange p) (exact ss) p.clipped_program)
+    any_spans left && (in_order 0 left && cond (is_play_range p) (exact ss) p.clipped_program)

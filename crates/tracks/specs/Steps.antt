@@ -3,11 +3,11 @@
 use Rattle.std.specs.Prelude.{true, false, cond, ◌&&◌, leb}
 use Rattle.tracks.specs.declared.track.Span.{Span}
 use Rattle.tracks.specs.declared.order.Order.{Order}
-use Rattle.tracks.specs.Track.{hasFrames}
+use Rattle.tracks.specs.Track.{has_frames}
 
 -- what is known of spans after one more
-unfoldable pub orderWith : Order → Span → Order
-orderWith o s =
-    cond (hasFrames s)
+unfoldable pub order_with : Order → Span → Order
+order_with o s =
+    cond (has_frames s)
     (record { left = true; whole = o.whole; ordered = o.ordered && leb o.end s.start; end = s.end })
     (record { left = o.left; whole = false; ordered = o.ordered; end = o.end })

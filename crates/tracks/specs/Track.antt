@@ -13,13 +13,13 @@ span_of row = record {
 }
 
 -- the span of track i, counted from 0
-unfoldable pub spanAt : List ℕ → ℕ → Span
-spanAt words i = span_of (take 4 (drop (i * 4) words))
+unfoldable pub span_at : List ℕ → ℕ → Span
+span_at words i = span_of (take 4 (drop (i * 4) words))
 
 -- the same, an empty one if there is no such track
-unfoldable pub trackSpan : List ℕ → ℕ → Span
-trackSpan words i =
-    cond (ltb i (length words / 4)) (spanAt words i) (record { start = 0; end = 0; title = record { start = 0; length = 0 } })
+unfoldable pub track_span : List ℕ → ℕ → Span
+track_span words i =
+    cond (ltb i (length words / 4)) (span_at words i) (record { start = 0; end = 0; title = record { start = 0; length = 0 } })
 
 -- the spans of the tracks that a build is lent
 unfoldable pub spans : List ℕ → List Span
@@ -30,37 +30,37 @@ unfoldable pub clip : ℕ → ℕ → Span → Span
 clip first end s = record { start = max first s.start; end = min end s.end; title = s.title }
 
 -- whether a span is not empty
-unfoldable pub hasFrames : Span → Bool
-hasFrames s = ltb s.start s.end
+unfoldable pub has_frames : Span → Bool
+has_frames s = ltb s.start s.end
 
 -- a span, or none if it is empty
 unfoldable pub kept : Span → List Span
-kept s = cond (hasFrames s) (s ∷ []) []
+kept s = cond (has_frames s) (s ∷ []) []
 
 -- spans clipped to a range, without the empty ones
 unfoldable pub clipped : ℕ → ℕ → List Span → List Span
 clipped first end ss = flat_map (λ s. kept (clip first end s)) ss
 
 -- whether spans that follow a frame are in order and don't overlap: each starts where the last one ended, or later
-unfoldable pub inOrder : ℕ → List Span → Bool
-inOrder after [] = true
-inOrder after (s ∷ ss) = leb after s.start && inOrder s.end ss
+unfoldable pub in_order : ℕ → List Span → Bool
+in_order after [] = true
+in_order after (s ∷ ss) = leb after s.start && in_order s.end ss
 
 -- where the last of spans that follow a frame ends; the frame, if there are none
-unfoldable pub endAfter : ℕ → List Span → ℕ
-endAfter after [] = after
-endAfter after (s ∷ ss) = endAfter s.end ss
+unfoldable pub end_after : ℕ → List Span → ℕ
+end_after after [] = after
+end_after after (s ∷ ss) = end_after s.end ss
 
 -- whether none is empty
-unfoldable pub allHaveFrames : List Span → Bool
-allHaveFrames [] = true
-allHaveFrames (s ∷ ss) = hasFrames s && allHaveFrames ss
+unfoldable pub all_have_frames : List Span → Bool
+all_have_frames [] = true
+all_have_frames (s ∷ ss) = has_frames s && all_have_frames ss
 
 -- whether spans are not empty, in order, and don't overlap
 unfoldable pub exact : List Span → Bool
-exact ss = allHaveFrames ss && inOrder 0 ss
+exact ss = all_have_frames ss && in_order 0 ss
 
 -- whether there are any
-unfoldable pub anySpans : List Span → Bool
-anySpans [] = false
-anySpans (s ∷ ss) = true
+unfoldable pub any_spans : List Span → Bool
+any_spans [] = false
+any_spans (s ∷ ss) = true

@@ -1,8 +1,8 @@
 // Whether tracks are in order, and give a program.
 ghost use Rattle.std.specs.Prelude.{◌≡◌, map};
-ghost use Rattle.tracks.specs.Track.{spans, clip, clipped, inOrder, endAfter, allHaveFrames, exact, anySpans};
-ghost use Rattle.tracks.specs.Order.{isPlayRange, hasProgram};
-ghost use Rattle.tracks.specs.Steps.{orderWith};
+ghost use Rattle.tracks.specs.Track.{spans, clip, clipped, in_order, end_after, all_have_frames, exact, any_spans};
+ghost use Rattle.tracks.specs.Order.{is_play_range, has_program};
+ghost use Rattle.tracks.specs.Steps.{order_with};
 
 use crate::track::Span;
 
@@ -30,7 +30,7 @@ pub struct Order {
 impl Order {
     // One span more.
     fn add(self, s: Span) -> Order
-        ensures { result ≡ orderWith self s }
+        ensures { result ≡ order_with self s }
     {
         if !s.has_frames() {
             return Order {
@@ -51,10 +51,10 @@ impl Order {
 
 // The order of the tracks' spans, clipped to a range.
 pub fn clipped_order(tracks: &[u32], first: u32, end: u32) -> Order
-    ensures left_value { result.left ≡ anySpans (clipped first end (spans tracks.now)) }
-    ensures whole_value { result.whole ≡ allHaveFrames (map (clip first end) (spans tracks.now)) }
-    ensures ordered_value { result.ordered ≡ inOrder 0 (clipped first end (spans tracks.now)) }
-    ensures end_value { result.end ≡ endAfter 0 (clipped first end (spans tracks.now)) }
+    ensures left_value { result.left ≡ any_spans (clipped first end (spans tracks.now)) }
+    ensures whole_value { result.whole ≡ all_have_frames (map (clip first end) (spans tracks.now)) }
+    ensures ordered_value { result.ordered ≡ in_order 0 (clipped first end (spans tracks.now)) }
+    ensures end_value { result.end ≡ end_after 0 (clipped first end (spans tracks.now)) }
 {
     let mut o = Order {
         left: false,
@@ -82,14 +82,14 @@ pub fn exact(tracks: &[u32]) -> bool
 }
 
 fn is_play_range(p: ProgramOptions) -> bool
-    ensures { result ≡ isPlayRange p }
+    ensures { result ≡ is_play_range p }
 {
     (p.first == 0) & (p.end == p.playtime)
 }
 
 // Whether tracks without a source track give a program.
 pub fn has_program(tracks: &[u32], p: ProgramOptions) -> bool
-    ensures { result ≡ hasProgram p (spans tracks.now) }
+    ensures { result ≡ has_program p (spans tracks.now) }
 {
     let left = clipped_order(tracks, p.first, p.end);
     if is_play_range(p) {

@@ -1,6 +1,6 @@
 // Tracks: rows of words, and the spans of frames that they cover.
 ghost use Rattle.std.specs.Prelude.{◌≡◌, ◌<◌, ◌/◌, min, max, length};
-ghost use Rattle.tracks.specs.Track.{span_of, spanAt, trackSpan, clip, hasFrames};
+ghost use Rattle.tracks.specs.Track.{span_of, span_at, track_span, clip, has_frames};
 
 use texts::extent::Extent;
 
@@ -72,7 +72,7 @@ impl Span {
     }
 
     pub fn has_frames(self) -> bool
-        ensures { result ≡ hasFrames self }
+        ensures { result ≡ has_frames self }
     {
         self.start < self.end
     }
@@ -81,7 +81,7 @@ impl Span {
 // The span of track i, counted from 0.
 pub(crate) fn span_at(tracks: &[u32], i: usize) -> Span
     requires { i < length tracks.now / 4 }
-    ensures { result ≡ spanAt tracks.now i }
+    ensures { result ≡ span_at tracks.now i }
 {
     let at = i * WORDS;
     let to = at + WORDS;
@@ -90,7 +90,7 @@ pub(crate) fn span_at(tracks: &[u32], i: usize) -> Span
 
 // The span of track i, counted from 0; an empty one if there is no such track.
 pub fn track_span(tracks: &[u32], i: usize) -> Span
-    ensures { result ≡ trackSpan tracks.now i }
+    ensures { result ≡ track_span tracks.now i }
 {
     if i < tracks.len() / WORDS {
         return span_at(tracks, i);

@@ -18,17 +18,17 @@ and_right true b h = h
 and_right false b h = cc
 
 -- tests that imply each other
-pub test-same : (a b : Bool) → (a ≡ true → b ≡ true) → (b ≡ true → a ≡ true) → a ≡ b
-test-same true b h k = sym (h refl)
-test-same false true h k = k refl
-test-same false false h k = refl
+pub test_same : (a b : Bool) → (a ≡ true → b ≡ true) → (b ≡ true → a ≡ true) → a ≡ b
+test_same true b h k = sym (h refl)
+test_same false true h k = k refl
+test_same false false h k = refl
 
 pub eqb-turned : (a b : ℕ) → eqb a b ≡ eqb b a
-eqb-turned a b = test-same (eqb a b) (eqb b a) (λ t. eq-eqb b a (sym (eqb-true a b t))) (λ t. eq-eqb a b (sym (eqb-true b a t)))
+eqb-turned a b = test_same (eqb a b) (eqb b a) (λ t. eq-eqb b a (sym (eqb-true a b t))) (λ t. eq-eqb a b (sym (eqb-true b a t)))
 
 -- n pieces of w bytes each, by division
 pub times : (bytes w n : ℕ) → 0 < w → (eqb (bytes % w) 0 && eqb (bytes / w) n) ≡ eqb (w * n) bytes
-times bytes w n h = test-same (eqb (bytes % w) 0 && eqb (bytes / w) n) (eqb (w * n) bytes) to from where
+times bytes w n h = test_same (eqb (bytes % w) 0 && eqb (bytes / w) n) (eqb (w * n) bytes) to from where
   to : (eqb (bytes % w) 0 && eqb (bytes / w) n) ≡ true → eqb (w * n) bytes ≡ true
   to t =
       let p = eqb-true (bytes % w) 0 (and_left (eqb (bytes % w) 0) (eqb (bytes / w) n) t) in
@@ -42,7 +42,7 @@ times bytes w n h = test-same (eqb (bytes % w) 0 && eqb (bytes / w) n) (eqb (w *
 -- a sum that stopped at the largest u64 is no slice's length
 pub stopped : (s f : ℕ) → f < 2 ^ 64 - 1 → eqb (min s (2 ^ 64 - 1)) f ≡ eqb s f
 stopped s f h =
-    test-same (eqb (min s (2 ^ 64 - 1)) f) (eqb s f)
+    test_same (eqb (min s (2 ^ 64 - 1)) f) (eqb s f)
     (λ t. let e = eqb-true (min s (2 ^ 64 - 1)) f t in eq-eqb s f (omega arith))
     (λ t. let e = eqb-true s f t in eq-eqb (min s (2 ^ 64 - 1)) f (omega arith))
 

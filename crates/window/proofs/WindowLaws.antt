@@ -17,7 +17,7 @@ use Rattle.chunk.proofs.ChunkLaws.{pad-even}
 use Rattle.chunk.specs.Append.{overlay, Appended}
 use Rattle.chunk.specs.Chunk.{pad, chunk}
 use Rattle.chunk.proofs.AppendLaws.{length-overlay, overlay-out, overlay-append, overlay-room, copied, ◌then◌ as append}
-use Rattle.chunk.proofs.TailLaws.{overlay-apart, overlay-tail, tail-lent, tail-back}
+use Rattle.chunk.proofs.TailLaws.{overlay-apart, overlay_tail, tail_lent, tail_back}
 use Rattle.window.specs.declared.window.Window.{Window}
 use Rattle.window.specs.Window.{shown, after, Wrote}
 use Rattle.window.proofs.TestLaws.{either, lt-or-le}
@@ -47,17 +47,17 @@ count-append A B O k =
     (λ h e. let z : B - (k - A) ≡ B = omega arith in rw (z, sub-some A B k h) (count-some (A - k) B O))
     (λ h e. rw (e, sub-none A B k h) (count_none (B - (k - A)) O))
 
-less-less : (x y z : ℕ) → x - y - z ≡ x - (y + z)
-less-less x y z = omega arith
+less_less : (x y z : ℕ) → x - y - z ≡ x - (y + z)
+less_less x y z = omega arith
 
 count-from : (A B o f k : ℕ) → (f + min (A - k) (o - f)) + min (B - (k - A)) (o - (f + min (A - k) (o - f))) ≡ f + min (A + B - k) (o - f)
-count-from A B o f k = rw (← less-less o f (min (A - k) (o - f)), add_assoc) (ap (λ (x : ℕ). f + x) (count-append A B (o - f) k))
+count-from A B o f k = rw (← less_less o f (min (A - k) (o - f)), add_assoc) (ap (λ (x : ℕ). f + x) (count-append A B (o - f) k))
 
 -- the place after two pieces
 after-after : (a b len : ℕ) (w : Window) → after b len (after a len w) ≡ after (a + b) len w
 unfolding after
 after-after a b len w =
-    ap₂ (λ (x y : ℕ). record { at = x; skip = y }) (count-from a b len w.at w.skip) (less-less w.skip a b)
+    ap₂ (λ (x y : ℕ). record { at = x; skip = y }) (count-from a b len w.at w.skip) (less_less w.skip a b)
 
 -- where the next piece goes: after what fits of the first, or past the buffer
 next_place : (xs : List ℕ) (a : ℕ) (A B : List ℕ) → overlay (overlay xs a A) (a + min (length A) (length xs - a)) B ≡ overlay xs a (A ++ B)
@@ -135,23 +135,23 @@ unseen bytes w out h =
     }
 
 -- a piece that is put into `&mut out[at..]`
-pub tail-put : {bytes : List ℕ} {at skip : ℕ} {out part : List ℕ} {v : Window} → at ≤ length out
+pub tail_put : {bytes : List ℕ} {at skip : ℕ} {out part : List ℕ} {v : Window} → at ≤ length out
     → Wrote bytes (record { at = 0; skip = skip }) (mid_of at (length out - at) out) part v
     → Wrote bytes (record { at = at; skip = skip }) out (put_mid at (length out - at) out part) (record { at = at + v.at; skip = v.skip })
 unfolding shown after
-tail-put {bytes} {at} {skip} {out} {part} {v} h p =
-    let e = tail-lent at out in
+tail_put {bytes} {at} {skip} {out} {part} {v} h p =
+    let e = tail_lent at out in
     let l : length (drop at out) ≡ length out - at = length-drop at out in
     let f : part ≡ overlay (drop at out) 0 (drop skip bytes) = rw e at p.filled in
     let n : 0 + min (length bytes - skip) (length (drop at out) - 0) ≡ min (length bytes - skip) (length out - at) = rw l (omega arith) in
     record {
-      filled = rw (tail-back at out part, f, overlay-tail at 0 out (drop skip bytes), add-zero);
+      filled = rw (tail_back at out part, f, overlay_tail at 0 out (drop skip bytes), add-zero);
       place = rw (p.place, e, n);
     }
 
 -- so many bytes are in `&xs[i..]`
-pub tail-long : (i k : ℕ) (xs : List ℕ) → k ≤ length xs - i → k ≤ length (mid_of i (length xs - i) xs)
-tail-long i k xs h = rw (tail-lent i xs, length-drop i xs) h
+pub tail_long : (i k : ℕ) (xs : List ℕ) → k ≤ length xs - i → k ≤ length (mid_of i (length xs - i) xs)
+tail_long i k xs h = rw (tail_lent i xs, length-drop i xs) h
 
 -- k bytes more are copied, from `&src[i..]` to `&mut mid[i..]`
 pub copied_on : (i k : ℕ) (out src mid part : List ℕ) → i ≤ length src → mid ≡ take i src ++ drop i out
@@ -161,20 +161,20 @@ copied_on i k out src mid part h e f =
     let l = length-take-le i src h in
     let t : take i mid ≡ take i src = ap (take i) e ∙ take_at (take i src) (drop i out) i l in
     let d : drop i mid ≡ drop i out = ap (drop i) e ∙ drop_at (take i src) (drop i out) i l in
-    let g : part ≡ take k (drop i src) ++ drop k (drop i out) = rw (f, tail-lent i src, tail-lent i mid, d) in
-    tail-back i mid part
+    let g : part ≡ take k (drop i src) ++ drop k (drop i out) = rw (f, tail_lent i src, tail_lent i mid, d) in
+    tail_back i mid part
     ∙ rw (t, g, drop-drop k i out, take-add i k src) (sym (append_assoc (take i src) (take k (drop i src)) (drop (i + k) out)))
 
 -- k bytes, copied by way of another buffer
-pub copied-through : (k : ℕ) (src block rest out : List ℕ) → k ≤ length src → block ≡ take k src ++ rest → take k block ++ drop k out ≡ take k src ++ drop k out
-copied-through k src block rest out h e = ap (λ (l : List ℕ). l ++ drop k out) (ap (take k) e ∙ take_at (take k src) rest k (length-take-le k src h))
+pub copied_through : (k : ℕ) (src block rest out : List ℕ) → k ≤ length src → block ≡ take k src ++ rest → take k block ++ drop k out ≡ take k src ++ drop k out
+copied_through k src block rest out h e = ap (λ (l : List ℕ). l ++ drop k out) (ap (take k) e ∙ take_at (take k src) rest k (length-take-le k src h))
 
 -- its end is within the buffer
-pub tail-fits : {bytes : List ℕ} {at skip : ℕ} (out : List ℕ) {part : List ℕ} {v : Window} → at ≤ length out
+pub tail_fits : {bytes : List ℕ} {at skip : ℕ} (out : List ℕ) {part : List ℕ} {v : Window} → at ≤ length out
     → Wrote bytes (record { at = 0; skip = skip }) (mid_of at (length out - at) out) part v → at + v.at ≤ length out
 unfolding after
-tail-fits {bytes} {at} {skip} out {part} {v} h p =
-    let l : length (mid_of at (length out - at) out) ≡ length out - at = ap length (tail-lent at out) ∙ length-drop at out in
+tail_fits {bytes} {at} {skip} out {part} {v} h p =
+    let l : length (mid_of at (length out - at) out) ≡ length out - at = ap length (tail_lent at out) ∙ length-drop at out in
     rw p.place (omega arith)
 
 plain : (n a o : ℕ) → n ≡ min a o → n ≡ 0 + min a (o - 0)
@@ -190,7 +190,7 @@ pub copied-out : {piece : List ℕ} {skip : ℕ} {out last : List ℕ} {n : ℕ}
     → Wrote piece (record { at = 0; skip = skip }) out last (record { at = n; skip = 0 })
 unfolding shown after
 copied-out {piece} {skip} {out} {last} {n} ho hp h e f =
-    let t = tail-lent skip piece in
+    let t = tail_lent skip piece in
     let l : length (drop skip piece) ≡ length piece - skip = length-drop skip piece in
     let i : n ≡ min (length (drop skip piece)) (length out) = rw t at e in
     let m : n ≡ min (length (drop skip piece)) (length out - 0) = omega arith in

@@ -1,6 +1,6 @@
 // A build from words, as Inputs.antt of the crate words lists them, with the rows and pools as they are.
-ghost use Rattle.words.specs.Inputs.{inputsOfWords};
-ghost use Rattle.words.specs.Border.{wordsFault};
+ghost use Rattle.words.specs.Inputs.{inputs_of_words};
+ghost use Rattle.words.specs.Border.{words_fault};
 ghost use Rattle.word_builds.specs.Build.{BuildsUnless};
 
 use build_answer::answer::Answer;
@@ -19,7 +19,7 @@ pub fn build(
     header: &mut [u8],
     trailer: &mut [u8],
 ) -> Answer
-    ensures { BuildsUnless (wordsFault words.now) (inputsOfWords words.now pool.now raw.now tracks.now markers.now comments.now callers.now lengths.now)
+    ensures { BuildsUnless (words_fault words.now) (inputs_of_words words.now pool.now raw.now tracks.now markers.now comments.now callers.now lengths.now)
         header.old header.new trailer.old trailer.new result }
 {
     let fault = words::border::words_fault(words);

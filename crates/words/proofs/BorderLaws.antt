@@ -7,20 +7,20 @@ use native.Mathlib.Omega.{arith}
 use lib.Dec.{eqb, ltb}
 use borrow.Author.Tests.{eqb-true, eqb-false, ltb-false, not-false}
 use lib.ListN.{length}
-use Rattle.refusal.specs.Orders.{propertyRank, infoRank, localRank}
+use Rattle.refusal.specs.Orders.{property_rank, info_rank, local_rank}
 use Rattle.refusal.proofs.VerdictLaws.{or-accepted, after, if-accepted, none_so}
-use Rattle.meanings.specs.Property.{layout_of, propertyChunkOf}
-use Rattle.meanings.specs.Diin.{source_of, infoChunkOf}
-use Rattle.meanings.specs.Local.{localChunkOf}
-use Rattle.meanings.specs.Options.{switchOf, replacementOf}
+use Rattle.meanings.specs.Property.{layout_of, property_chunk_of}
+use Rattle.meanings.specs.Diin.{source_of, info_chunk_of}
+use Rattle.meanings.specs.Local.{local_chunk_of}
+use Rattle.meanings.specs.Options.{switch_of, replacement_of}
 use Rattle.single_words.specs.Word.{word_of, low_bytes, is_set}
-use Rattle.words.specs.Border.{wordCount, exceeds, fieldFaults, nameFaults, wordsFault}
-use Rattle.words.specs.Inputs.{areaOf, channelNumbersOf, choicesOf, inputsOfWords}
-use Rattle.words.specs.Exact.{layoutNumber, switchNumber, sourceNumber, words_of, EveryWordExact}
+use Rattle.words.specs.Border.{word_count, exceeds, field_faults, name_faults, words_fault}
+use Rattle.words.specs.Inputs.{area_of, channel_numbers_of, choices_of, inputs_of_words}
+use Rattle.words.specs.Exact.{layout_number, switch_number, source_number, words_of, EveryWordExact}
 
-most-of : (w : List ℕ) (i n most : ℕ) → exceeds w i n most ≡ false → (k : ℕ) → k < n → word_of w (i + k) ≤ most
+most_of : (w : List ℕ) (i n most : ℕ) → exceeds w i n most ≡ false → (k : ℕ) → k < n → word_of w (i + k) ≤ most
 unfolding exceeds
-most-of w i n most e k h = ltb-false most (word_of w (i + k)) (none_so (λ j. ltb most (word_of w (i + j))) n e k h)
+most_of w i n most e k h = ltb-false most (word_of w (i + k)) (none_so (λ j. ltb most (word_of w (i + j))) n e k h)
 
 low_byte : (n : ℕ) → n ≤ 255 → n % 2 ^ 8 ≡ n
 low_byte n h = omega arith
@@ -46,38 +46,38 @@ next f last back e n h = by (eqb n (suc last)) refl
     by false is = back n (omega (arith, eqb-false n (suc last) is, h))
 
 -- so are the names of n words from word i on
-names-back : (f : ℕ → ℕ) (last : ℕ) → last ≤ 255 → TellsBack f last → (w : List ℕ) (i n : ℕ) → ((k : ℕ) → k < n → word_of w (i + k) ≤ last)
+names_back : (f : ℕ → ℕ) (last : ℕ) → last ≤ 255 → TellsBack f last → (w : List ℕ) (i n : ℕ) → ((k : ℕ) → k < n → word_of w (i + k) ≤ last)
     → map f (low_bytes w i n) ≡ words_of w i n
-names-back f last small back w i zero h = refl
-names-back f last small back w i (suc n) h =
+names_back f last small back w i zero h = refl
+names_back f last small back w i (suc n) h =
     let here : word_of w i ≤ last = subst (λ (j : ℕ). word_of w j ≤ last) (omega arith) (h 0 (omega arith)) in
     let head : f (word_of w i % 2 ^ 8) ≡ word_of w i = rw (low_byte (word_of w i) (omega (arith, here, small))) (back (word_of w i) here) in
     ap₂ (λ (a : ℕ) (l : List ℕ). a ∷ l) head
-    (names-back f last small back w (suc i) n (λ k l. subst (λ (j : ℕ). word_of w j ≤ last) (omega arith) (h (suc k) (omega arith))))
+    (names_back f last small back w (suc i) n (λ k l. subst (λ (j : ℕ). word_of w j ≤ last) (omega arith) (h (suc k) (omega arith))))
 
-layouts : TellsBack (λ n. layoutNumber (layout_of n)) 3
+layouts : TellsBack (λ n. layout_number (layout_of n)) 3
 layouts = next _ 2 (to-two _ refl refl refl) refl
 
-switches : TellsBack (λ n. switchNumber (switchOf n)) 2
+switches : TellsBack (λ n. switch_number (switch_of n)) 2
 switches = to-two _ refl refl refl
 
-sources : TellsBack (λ n. sourceNumber (source_of n)) 2
+sources : TellsBack (λ n. source_number (source_of n)) 2
 sources = to-two _ refl refl refl
 
-properties : TellsBack (λ n. propertyRank (propertyChunkOf n)) 4
+properties : TellsBack (λ n. property_rank (property_chunk_of n)) 4
 properties = next _ 3 (next _ 2 (to-two _ refl refl refl) refl) refl
 
-infos : TellsBack (λ n. infoRank (infoChunkOf n)) 3
+infos : TellsBack (λ n. info_rank (info_chunk_of n)) 3
 infos = next _ 2 (to-two _ refl refl refl) refl
 
-locals : TellsBack (λ n. localRank (localChunkOf n)) 4
+locals : TellsBack (λ n. local_rank (local_chunk_of n)) 4
 locals = next _ 3 (next _ 2 (to-two _ refl refl refl) refl) refl
 
 pub every-word-exact : EveryWordExact
-unfolding wordsFault fieldFaults nameFaults inputsOfWords areaOf choicesOf channelNumbersOf
+unfolding words_fault field_faults name_faults inputs_of_words area_of choices_of channel_numbers_of
 every-word-exact w pool raw tracks markers comments callers lengths ok =
-    let both = or-accepted (fieldFaults w) (nameFaults w) ok in
-    let h2 = after (not (eqb (length w) wordCount)) 2 0 both.0 in
+    let both = or-accepted (field_faults w) (name_faults w) ok in
+    let h2 = after (not (eqb (length w) word_count)) 2 0 both.0 in
     let h7 = after (exceeds w 2 1 255) 7 0 h2.1 in
     let h8 = after (exceeds w 3 1 3) 8 0 h7.1 in
     let h13 = after (exceeds w 21 1 65_535) 13 0 h8.1 in
@@ -87,19 +87,19 @@ every-word-exact w pool raw tracks markers comments callers lengths ok =
     let h30 = after (exceeds w 57 4 3) 30 0 h28.1 in
     let h30' = after (exceeds w 32 2 2) 30 0 h30.1 in
     let h37 = if-accepted (exceeds w 61 5 4) 37 0 h30'.1 in
-    let small : (k : ℕ) → k < 6 → word_of w (8 + k) % 2 ^ 16 ≡ word_of w (8 + k) = λ k h. low_half (word_of w (8 + k)) (most-of w 8 6 65_535 h26 k h) in
-    let layout = most-of w 3 1 3 h8.0 0 (omega arith) in
-    let source = most-of w 32 2 2 h30'.0 1 (omega arith) in
+    let small : (k : ℕ) → k < 6 → word_of w (8 + k) % 2 ^ 16 ≡ word_of w (8 + k) = λ k h. low_half (word_of w (8 + k)) (most_of w 8 6 65_535 h26 k h) in
+    let layout = most_of w 3 1 3 h8.0 0 (omega arith) in
+    let source = most_of w 32 2 2 h30'.0 1 (omega arith) in
     record {
-      many = eqb-true (length w) wordCount (not-false (eqb (length w) wordCount) h2.0);
-      channels = low_byte (word_of w 2) (most-of w 2 1 255 h7.0 0 (omega arith));
+      many = eqb-true (length w) word_count (not-false (eqb (length w) word_count) h2.0);
+      channels = low_byte (word_of w 2) (most_of w 2 1 255 h7.0 0 (omega arith));
       layout = rw (low_byte (word_of w 3) (omega (arith, layout))) (layouts (word_of w 3) layout);
       numbers = rw (small 0 (omega arith), small 1 (omega arith), small 2 (omega arith), small 3 (omega arith), small 4 (omega arith), small 5 (omega arith));
-      source-track = low_half (word_of w 21) (most-of w 21 1 65_535 h13.0 0 (omega arith));
-      artist-title = switches (word_of w 32) (most-of w 32 2 2 h30'.0 0 (omega arith));
-      artist-title-source = rw (low_byte (word_of w 33) (omega (arith, source))) (sources (word_of w 33) source);
-      replacement = ap (replacementOf (is_set w 46)) (low_byte (word_of w 47) (most-of w 47 1 255 h24.0 0 (omega arith)));
-      property-order = names-back _ 4 (omega arith) properties w 52 5 (most-of w 52 5 4 h28.0);
-      info-order = names-back _ 3 (omega arith) infos w 57 4 (most-of w 57 4 3 h30.0);
-      local-order = names-back _ 4 (omega arith) locals w 61 5 (most-of w 61 5 4 h37);
+      source_track = low_half (word_of w 21) (most_of w 21 1 65_535 h13.0 0 (omega arith));
+      artist_title = switches (word_of w 32) (most_of w 32 2 2 h30'.0 0 (omega arith));
+      artist_title_source = rw (low_byte (word_of w 33) (omega (arith, source))) (sources (word_of w 33) source);
+      replacement = ap (replacement_of (is_set w 46)) (low_byte (word_of w 47) (most_of w 47 1 255 h24.0 0 (omega arith)));
+      property_order_lem = names_back _ 4 (omega arith) properties w 52 5 (most_of w 52 5 4 h28.0);
+      info_order_lem = names_back _ 3 (omega arith) infos w 57 4 (most_of w 57 4 3 h30.0);
+      local_order_lem = names_back _ 4 (omega arith) locals w 61 5 (most_of w 61 5 4 h37);
     }

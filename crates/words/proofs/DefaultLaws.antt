@@ -2,19 +2,19 @@
 use mathlib.Core.Path.{refl}
 use Rattle.refusal.specs.Below.{below}
 use Rattle.build_options.specs.Options.{defaults}
-use Rattle.single_words.specs.Word.{is_set, textAt}
-use Rattle.words.specs.Border.{exceeds, fieldFaults, nameFaults, wordsFault}
-use Rattle.words.specs.Inputs.{areaOf, channelNumbersOf, choicesOf, inputsOfWords}
-use Rattle.words.specs.Defaults.{defaultWords, Defaults, DefaultWords}
+use Rattle.single_words.specs.Word.{is_set, text_at}
+use Rattle.words.specs.Border.{exceeds, field_faults, name_faults, words_fault}
+use Rattle.words.specs.Inputs.{area_of, channel_numbers_of, choices_of, inputs_of_words}
+use Rattle.words.specs.Defaults.{default_words, Defaults, DefaultWords}
 
-pub default-words : DefaultWords
-unfolding defaultWords wordsFault fieldFaults nameFaults exceeds below areaOf channelNumbersOf choicesOf inputsOfWords is_set textAt defaults
-default-words pool raw tracks markers comments callers lengths = record {
-  no-fault = refl;
+pub default_words_lem : DefaultWords
+unfolding default_words words_fault field_faults name_faults exceeds below area_of channel_numbers_of choices_of inputs_of_words is_set text_at defaults
+default_words_lem pool raw tracks markers comments callers lengths = record {
+  no_fault = refl;
   area = refl;
   options = refl;
-  property-order = refl;
-  info-order = refl;
-  local-order = refl;
+  property_order_lem = refl;
+  info_order_lem = refl;
+  local_order_lem = refl;
   local-count = refl;
 }

@@ -1,14 +1,14 @@
 -- THE BORDER OF THE WORDS: what is refused of the words themselves, before anything is made of them, so that a word that its field cannot hold, or that names nothing, is never taken
 -- for another value. Each has the number of its field, and is tested whether or not the field is used. A switch is on if its word is not 0. Assumes nothing.
 use Rattle.std.specs.Prelude.{ℕ, ◌+◌, Bool, not, List, [], ◌∷◌, eqb, ltb, length}
-use Rattle.refusal.specs.Verdict.{refuseIf, first_of, or_else}
+use Rattle.refusal.specs.Verdict.{refuse_if, first_of, or_else}
 use Rattle.refusal.specs.Below.{any}
 use Rattle.refusal.specs.declared.verdict.Verdict.{Verdict}
 use Rattle.single_words.specs.Word.{word_of}
 
 -- how many words a build has
-abbrev pub wordCount : ℕ
-wordCount = 67
+abbrev pub word_count : ℕ
+word_count = 67
 
 -- one of n words from word i on exceeds the most that there is
 unfoldable pub exceeds : List ℕ → ℕ → ℕ → ℕ → Bool
@@ -16,14 +16,14 @@ exceeds w i n most = any (λ k. ltb most (word_of w (i + k))) n
 
 -- and is refused with this number
 abbrev pub beyond : List ℕ → ℕ → ℕ → ℕ → ℕ → Verdict
-beyond w i n most number = refuseIf (exceeds w i n most) number 0
+beyond w i n most number = refuse_if (exceeds w i n most) number 0
 
 -- fewer or more words (2); channels that no u8 holds (7); no layout (8); a source track that no u16 holds (13); a replacement that no u8 holds (24); channel numbers that
 -- no u16 holds (26)
-unfoldable pub fieldFaults : List ℕ → Verdict
-fieldFaults w =
+unfoldable pub field_faults : List ℕ → Verdict
+field_faults w =
     first_of
-    (refuseIf (not (eqb (length w) wordCount)) 2 0
+    (refuse_if (not (eqb (length w) word_count)) 2 0
     ∷ beyond w 2 1 255 7
     ∷ beyond w 3 1 3 8
     ∷ beyond w 21 1 65_535 13
@@ -32,8 +32,8 @@ fieldFaults w =
     ∷ [])
 
 -- no name of PROP's order (28); no name of DIIN's order, no position of the switch of artist and title, or no source of theirs (30); no name of the local order (37)
-unfoldable pub nameFaults : List ℕ → Verdict
-nameFaults w =
+unfoldable pub name_faults : List ℕ → Verdict
+name_faults w =
     first_of
     (beyond w 52 5 4 28
     ∷ beyond w 57 4 3 30
@@ -42,5 +42,5 @@ nameFaults w =
     ∷ [])
 
 -- the first fault of the words
-unfoldable pub wordsFault : List ℕ → Verdict
-wordsFault w = or_else (fieldFaults w) (nameFaults w)
+unfoldable pub words_fault : List ℕ → Verdict
+words_fault w = or_else (field_faults w) (name_faults w)

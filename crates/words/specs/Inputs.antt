@@ -6,16 +6,16 @@ use Rattle.build_options.specs.Inputs.{Inputs}
 use Rattle.build_options.specs.declared.area.Area.{Area}
 use Rattle.build_options.specs.declared.options.Options.{Options}
 use Rattle.meanings.specs.Sound.{offset_of}
-use Rattle.meanings.specs.Property.{soundOf, layout_of, start_of, propertyOrderOf}
-use Rattle.meanings.specs.Diin.{source_of, infoOrderOf}
-use Rattle.meanings.specs.Local.{localOrderOf}
-use Rattle.meanings.specs.Options.{switchOf, replacementOf}
-use Rattle.single_words.specs.Word.{word_of, low_byte, half_of, low_bytes, is_set, textAt}
+use Rattle.meanings.specs.Property.{sound_of, layout_of, start_of, property_order_of}
+use Rattle.meanings.specs.Diin.{source_of, info_order_of}
+use Rattle.meanings.specs.Local.{local_order_of}
+use Rattle.meanings.specs.Options.{switch_of, replacement_of}
+use Rattle.single_words.specs.Word.{word_of, low_byte, half_of, low_bytes, is_set, text_at}
 
 -- words 0 to 5
-unfoldable pub areaOf : List ℕ → Area
-areaOf w = record {
-  sound = soundOf (is_set w 0);
+unfoldable pub area_of : List ℕ → Area
+area_of w = record {
+  sound = sound_of (is_set w 0);
   playtime = word_of w 1;
   channels = low_byte w 2;
   layout = layout_of (low_byte w 3);
@@ -24,17 +24,17 @@ areaOf w = record {
 }
 
 -- words 6 to 13
-unfoldable pub channelNumbersOf : List ℕ → ChannelNumbers
-channelNumbersOf w = record {
+unfoldable pub channel_numbers_of : List ℕ → ChannelNumbers
+channel_numbers_of w = record {
   given = is_set w 6;
   count = word_of w 7;
   numbers = half_of w 8 ∷ half_of w 9 ∷ half_of w 10 ∷ half_of w 11 ∷ half_of w 12 ∷ half_of w 13 ∷ [];
 }
 
 -- words 6 to 51
-unfoldable pub choicesOf : List ℕ → Options
-choicesOf w = record {
-  channel_numbers = channelNumbersOf w;
+unfoldable pub choices_of : List ℕ → Options
+choices_of w = record {
+  channel_numbers = channel_numbers_of w;
   unspecified_loudspeaker_configuration = is_set w 14;
   loudspeaker_configuration = is_set w 15;
   absolute_start = start_of (is_set w 16) (word_of w 17);
@@ -51,11 +51,11 @@ choicesOf w = record {
   clipped_program = is_set w 29;
   marker_titles = is_set w 30;
   text_pad_counted = is_set w 31;
-  artist_title = switchOf (word_of w 32);
+  artist_title = switch_of (word_of w 32);
   artist_title_source = source_of (low_byte w 33);
-  album = record { artist = textAt w 34; title = textAt w 37 };
-  track = record { artist = textAt w 40; title = textAt w 43 };
-  text_replacement = replacementOf (is_set w 46) (low_byte w 47);
+  album = record { artist = text_at w 34; title = text_at w 37 };
+  track = record { artist = text_at w 40; title = text_at w 43 };
+  text_replacement = replacement_of (is_set w 46) (low_byte w 47);
   empty_text = is_set w 48;
   empty_info = is_set w 49;
   d1 = is_set w 50;
@@ -63,14 +63,14 @@ choicesOf w = record {
 }
 
 -- the inputs of a build: the words, and the lent slices as they are
-unfoldable pub inputsOfWords : List ℕ → List ℕ → List ℕ → List ℕ → List ℕ → List ℕ → List ℕ → List ℕ → Inputs
-inputsOfWords w pool raw tracks markers comments callers lengths = record {
-  area = areaOf w;
-  options = choicesOf w;
-  propertyOrder = propertyOrderOf (low_bytes w 52 5);
-  infoOrder = infoOrderOf (low_bytes w 57 4);
-  localOrder = localOrderOf (low_bytes w 61 5);
-  localCount = word_of w 66;
+unfoldable pub inputs_of_words : List ℕ → List ℕ → List ℕ → List ℕ → List ℕ → List ℕ → List ℕ → List ℕ → Inputs
+inputs_of_words w pool raw tracks markers comments callers lengths = record {
+  area = area_of w;
+  options = choices_of w;
+  property_order = property_order_of (low_bytes w 52 5);
+  info_order = info_order_of (low_bytes w 57 4);
+  local_order = local_order_of (low_bytes w 61 5);
+  local_count = word_of w 66;
   pool = pool;
   raw = raw;
   tracks = tracks;

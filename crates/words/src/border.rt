@@ -1,6 +1,6 @@
 // What is refused of the words themselves, before anything is made of them.
 ghost use Rattle.std.specs.Prelude.{◌≡◌};
-ghost use Rattle.words.specs.Border.{exceeds, beyond, fieldFaults, nameFaults, wordsFault};
+ghost use Rattle.words.specs.Border.{exceeds, beyond, field_faults, name_faults, words_fault};
 
 use refusal::verdict::{Verdict, refuse_if};
 use single_words::word::word;
@@ -32,7 +32,7 @@ fn beyond(words: &[u32], first: u8, count: u8, most: u32, number: u8) -> Verdict
 
 // There are 67 words (2), and a field holds its word: channels (7), layout (8), source track (13), replacement (24), channel numbers (26).
 fn field_faults(words: &[u32]) -> Verdict
-    ensures { result ≡ fieldFaults words.now }
+    ensures { result ≡ field_faults words.now }
 {
     let v2 = refuse_if(words.len() != WORDS, 2, 0);
     let v7 = beyond(words, 2, 1, 255, 7);
@@ -45,7 +45,7 @@ fn field_faults(words: &[u32]) -> Verdict
 
 // A number names something: in the orders of PROP (28), DIIN (30) and the local chunks (37), and for artist and title (30), their switch and their source.
 fn name_faults(words: &[u32]) -> Verdict
-    ensures { result ≡ nameFaults words.now }
+    ensures { result ≡ name_faults words.now }
 {
     let v28 = beyond(words, 52, 5, 4, 28);
     let v30 = beyond(words, 57, 4, 3, 30);
@@ -56,7 +56,7 @@ fn name_faults(words: &[u32]) -> Verdict
 
 // The first fault of the words.
 pub fn words_fault(words: &[u32]) -> Verdict
-    ensures { result ≡ wordsFault words.now }
+    ensures { result ≡ words_fault words.now }
 {
     let fields = field_faults(words);
     let names = name_faults(words);

@@ -1,7 +1,7 @@
 // The words of a build before anything is told.
 ghost use Rattle.std.specs.Prelude.{◌≡◌, min};
 ghost use Rattle.chunk.specs.Append.{Appended};
-ghost use Rattle.words.specs.Defaults.{defaultWords};
+ghost use Rattle.words.specs.Defaults.{default_words};
 
 // As specs/Inputs.antt lists them. On are LSCO (15), DSTI (19), EMID (24), the replacement (46, a question mark) and an empty DIIN (49).
 const DEFAULTS: [u32; 67] = [
@@ -11,7 +11,7 @@ const DEFAULTS: [u32; 67] = [
 ];
 
 pub fn default_words() -> [u32; 67]
-    ensures { result ≡ defaultWords }
+    ensures { result ≡ default_words }
 {
     DEFAULTS
 }
@@ -28,7 +28,7 @@ fn fitting(room: usize) -> usize
 
 // The default words into a list, as many as fit; the answer is how many a build has.
 pub fn fill_defaults(words: &mut [u32]) -> usize
-    ensures { Appended words.old 0 defaultWords words.new result }
+    ensures { Appended words.old 0 default_words words.new result }
 {
     let defaults = default_words();
     let n = fitting(words.len());

@@ -1,6 +1,6 @@
 // The area and the options of a build: words 0 to 51.
 ghost use Rattle.std.specs.Prelude.{◌≡◌};
-ghost use Rattle.words.specs.Inputs.{areaOf, channelNumbersOf, choicesOf};
+ghost use Rattle.words.specs.Inputs.{area_of, channel_numbers_of, choices_of};
 
 use build_options::area::Area;
 use build_options::options::Options;
@@ -10,7 +10,7 @@ use single_words::word::{byte, half, is_set, text_at, word};
 use texts::extent::Extent;
 
 pub fn area_of(words: &[u32]) -> Area
-    ensures { result ≡ areaOf words.now }
+    ensures { result ≡ area_of words.now }
 {
     Area {
         sound: meanings::property::sound(is_set(words, 0)),
@@ -23,7 +23,7 @@ pub fn area_of(words: &[u32]) -> Area
 }
 
 pub fn channel_numbers(words: &[u32]) -> ChannelNumbers
-    ensures { result ≡ channelNumbersOf words.now }
+    ensures { result ≡ channel_numbers_of words.now }
 {
     ChannelNumbers {
         given: is_set(words, 6),
@@ -40,7 +40,7 @@ pub fn channel_numbers(words: &[u32]) -> ChannelNumbers
 }
 
 pub fn options_of(words: &[u32]) -> Options
-    ensures { result ≡ choicesOf words.now }
+    ensures { result ≡ choices_of words.now }
 {
     Options {
         channel_numbers: channel_numbers(words),

@@ -2,8 +2,8 @@
 ghost use Rattle.std.specs.Prelude.{◌≡◌};
 ghost use Rattle.checks.specs.InputVerdict.{verdict};
 ghost use Rattle.refusal.specs.Verdict.{or_else};
-ghost use Rattle.words.specs.Border.{wordsFault};
-ghost use Rattle.words.specs.Inputs.{inputsOfWords};
+ghost use Rattle.words.specs.Border.{words_fault};
+ghost use Rattle.words.specs.Inputs.{inputs_of_words};
 
 use refusal::verdict::Verdict;
 
@@ -18,7 +18,7 @@ pub fn verdict(
     callers: &[u32],
     lengths: &[u32],
 ) -> Verdict
-    ensures { result ≡ or_else (wordsFault words.now) (verdict (inputsOfWords words.now pool.now raw.now
+    ensures { result ≡ or_else (words_fault words.now) (verdict (inputs_of_words words.now pool.now raw.now
         tracks.now markers.now comments.now callers.now lengths.now)) }
 {
     let fault = crate::border::words_fault(words);

@@ -17,9 +17,9 @@ use Rattle.window.specs.Window.{shown}
 use Rattle.window.proofs.TestLaws.{lt-or-le}
 use Rattle.read_answer.specs.declared.answer.ReadAnswer.{ReadAnswer}
 use Rattle.read_answer.specs.declared.answer.ReadAnswer.TheVariants.{Filled, Refused}
-use Rattle.file_read.specs.Read.{Request, readVerdict, fileWith, Reading, Reads}
+use Rattle.file_read.specs.Read.{Request, read_verdict, file_with, Reading, Reads}
 use Rattle.old_readers.specs.Premises.{AcceptedBuild, Call, WasGiven, IfAccepted, AllGiven, read_by, reads_of}
-use Rattle.worked_reads.specs.Instance.{WorkedRead, blank, holdingBy}
+use Rattle.worked_reads.specs.Instance.{WorkedRead, blank, holding_by}
 
 -- bytes that are stored over the front of a buffer: those that fit, and what stays
 overlay-front : (out s : List ℕ) → overlay out 0 s ≡ take (length out) s ++ drop (length (take (length out) s)) out
@@ -44,15 +44,15 @@ under q out last r e = subst (λ (v : Verdict). Reading v q out last r) (sym e)
 module _ (b : AcceptedBuild) (fs : List Frame) (file : List ℕ) where
   -- what is computed of a read that is accepted: the verdict, how many bytes it fills, that the file that it knows of has there what the file has, and what it was given
   pub record Accepts (q : Request) (room count : ℕ) : Type 0 where
-    pub taken : readVerdict q room ≡ verdict.Accepted
-    pub many : count ≡ min room (length (fileWith q room) - q.offset)
-    pub shows : window (fileWith q room) q.offset room ≡ window file q.offset room
+    pub taken : read_verdict q room ≡ verdict.Accepted
+    pub many : count ≡ min room (length (file_with q room) - q.offset)
+    pub shows : window (file_with q room) q.offset room ≡ window file q.offset room
     pub given : WasGiven b fs q room
 
   -- of a read with this answer; of a refused one the verdict
   abbrev pub Computes : Request → ℕ → ReadAnswer → Type 0
   Computes q room (Filled count) = Accepts q room count
-  Computes q room (Refused number detail) = readVerdict q room ≡ verdict.Refused number detail
+  Computes q room (Refused number detail) = read_verdict q room ≡ verdict.Refused number detail
 
   -- of each of a list
   abbrev pub AllCompute : List WorkedRead → Type 0
@@ -72,16 +72,16 @@ module _ (b : AcceptedBuild) (fs : List Frame) (file : List ℕ) where
         answer = ap Filled a.many;
         buffer =
             ap (λ (s : List ℕ). s ++ drop (length s) out) (sym a.shows)
-            ∙ sym (overlay-front out (drop q.offset (fileWith q (length out))));
+            ∙ sym (overlay-front out (drop q.offset (file_with q (length out))));
       }))
 
-  refuses : (q : Request) (out : List ℕ) (room number detail : ℕ) → length out ≡ room → readVerdict q room ≡ verdict.Refused number detail
+  refuses : (q : Request) (out : List ℕ) (room number detail : ℕ) → length out ≡ room → read_verdict q room ≡ verdict.Refused number detail
       → Reads q out out (Refused number detail)
   refuses q out room number detail e =
-      subst (λ (n : ℕ). readVerdict q n ≡ verdict.Refused number detail → Reads q out out (Refused number detail)) e
+      subst (λ (n : ℕ). read_verdict q n ≡ verdict.Refused number detail → Reads q out out (Refused number detail)) e
       (λ v. under q out out (Refused number detail) v (record { answer = refl; buffer = refl }))
 
-  pub promised : (q : Request) (room : ℕ) (r : ReadAnswer) → Computes q room r → Reads q (blank room) (holdingBy r file q.offset room) r
+  pub promised : (q : Request) (room : ℕ) (r : ReadAnswer) → Computes q room r → Reads q (blank room) (holding_by r file q.offset room) r
   promised q room (Filled count) c = fills q (blank room) room count (length-replicate room 170) c
   promised q room (Refused number detail) c = refuses q (blank room) room number detail (length-replicate room 170) c
 
@@ -90,7 +90,7 @@ module _ (b : AcceptedBuild) (fs : List Frame) (file : List ℕ) where
   call_of r c = record {
     request = r.request;
     out = blank r.room;
-    last = holdingBy r.answer file r.request.offset r.room;
+    last = holding_by r.answer file r.request.offset r.room;
     answer = r.answer;
     promise = promised r.request r.room r.answer c;
   }
@@ -112,10 +112,10 @@ module _ (b : AcceptedBuild) (fs : List Frame) (file : List ℕ) where
   one-given q room (Filled count) c = rw (length-replicate {A = ℕ} room 170) c.given
   one-given q room (Refused number detail) c = tt
 
-  pub all-given : (rs : List WorkedRead) (cs : AllCompute rs) → AllGiven b fs (calls_of rs cs)
+  pub all_given : (rs : List WorkedRead) (cs : AllCompute rs) → AllGiven b fs (calls_of rs cs)
   unfolding calls_of
-  all-given [] cs = tt
-  all-given (r ∷ rs) cs = (one-given r.request r.room r.answer cs.0, all-given rs cs.1)
+  all_given [] cs = tt
+  all_given (r ∷ rs) cs = (one-given r.request r.room r.answer cs.0, all_given rs cs.1)
 
 -- the places that reads cover, by offsets and rooms alone
 abbrev pub places_by : ℕ → ℕ → ReadAnswer → Read
@@ -131,9 +131,9 @@ unfolding covered
 one_covers offset room last (Filled count) p reads places e = rw (length-replicate {A = ℕ} room 170, e)
 one_covers offset room last (Refused number detail) p reads places e = e
 
-pub all-cover : (b : AcceptedBuild) (fs : List Frame) (file : List ℕ) (rs : List WorkedRead) (cs : AllCompute b fs file rs) (p : ℕ)
+pub all_cover : (b : AcceptedBuild) (fs : List Frame) (file : List ℕ) (rs : List WorkedRead) (cs : AllCompute b fs file rs) (p : ℕ)
     → covered (reads_of (calls_of b fs file rs cs)) p ≡ covered (places_of rs) p
 unfolding calls_of
-all-cover b fs file [] cs p = refl
-all-cover b fs file (r ∷ rs) cs p =
-    one_covers r.request.offset r.room _ r.answer p _ _ (all-cover b fs file rs cs.1 p)
+all_cover b fs file [] cs p = refl
+all_cover b fs file (r ∷ rs) cs p =
+    one_covers r.request.offset r.room _ r.answer p _ _ (all_cover b fs file rs cs.1 p)

@@ -1,10 +1,10 @@
 -- The worked instance of two DST frames holds, by computation. Assumes nothing.
 use mathlib.Core.Path.{refl}
-use Rattle.worked_reads.specs.WorkedReads.{dstInstance, WorkedReads}
+use Rattle.worked_reads.specs.WorkedReads.{dst_instance, WorkedReads}
 use Rattle.worked_reads.proofs.Opened.{definitions}
-use Rattle.worked_reads.proofs.InstanceLaws.{Computed, workedBuild, workedCalls, worked}
+use Rattle.worked_reads.proofs.InstanceLaws.{Computed, worked_build, worked_calls, worked}
 
-pub computed : Computed dstInstance
+pub computed : Computed dst_instance
 unfolding definitions
 computed = record {
   built = record { orders = record { property = refl; info = refl; local = refl }; answers = refl; header = refl; trailer = refl };
@@ -45,10 +45,10 @@ computed = record {
       ),
     ),
   );
-  none-missed = refl;
-  required-names = refl;
-  all-names = refl;
+  none_missed = refl;
+  required_names_lem = refl;
+  all_names_lem = refl;
 }
 
-pub worked-reads : WorkedReads (workedBuild dstInstance computed) (workedCalls dstInstance computed)
-worked-reads = worked dstInstance computed
+pub worked-reads : WorkedReads (worked_build dst_instance computed) (worked_calls dst_instance computed)
+worked-reads = worked dst_instance computed

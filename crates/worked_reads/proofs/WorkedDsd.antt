@@ -1,10 +1,10 @@
 -- The worked instance of one DSD frame holds, by computation. Assumes nothing.
 use mathlib.Core.Path.{refl}
-use Rattle.worked_reads.specs.WorkedDsd.{dsdInstance, WorkedDsd}
+use Rattle.worked_reads.specs.WorkedDsd.{dsd_instance, WorkedDsd}
 use Rattle.worked_reads.proofs.Opened.{definitions}
-use Rattle.worked_reads.proofs.InstanceLaws.{Computed, workedBuild, workedCalls, worked}
+use Rattle.worked_reads.proofs.InstanceLaws.{Computed, worked_build, worked_calls, worked}
 
-pub computed : Computed dsdInstance
+pub computed : Computed dsd_instance
 unfolding definitions
 computed = record {
   built = record { orders = record { property = refl; info = refl; local = refl }; answers = refl; header = refl; trailer = refl };
@@ -53,10 +53,10 @@ computed = record {
       ),
     ),
   );
-  none-missed = refl;
-  required-names = refl;
-  all-names = refl;
+  none_missed = refl;
+  required_names_lem = refl;
+  all_names_lem = refl;
 }
 
-pub worked-dsd : WorkedDsd (workedBuild dsdInstance computed) (workedCalls dsdInstance computed)
-worked-dsd = worked dsdInstance computed
+pub worked-dsd : WorkedDsd (worked_build dsd_instance computed) (worked_calls dsd_instance computed)
+worked-dsd = worked dsd_instance computed

@@ -2,7 +2,7 @@
 -- counted; and six reads of it, of which one is refused. Assumes nothing.
 use Rattle.std.specs.Prelude.{true, false, List, [], ◌∷◌, ◌++◌, ℕ, ◌+◌, ◌*◌, replicate}
 use Rattle.chunk.specs.Number.{num}
-use Rattle.chunk_names.specs.Name.{ascii, propertyOrder, infoOrder, localOrder}
+use Rattle.chunk_names.specs.Name.{ascii, property_order, info_order, local_order}
 use Rattle.tree.specs.Reader.{Report}
 use Rattle.diin_texts.specs.declared.diin_text.Text.TheVariants.{Given}
 use Rattle.prop_fields.specs.declared.compression.Sound.TheVariants.{Dsd}
@@ -11,15 +11,15 @@ use Rattle.build_options.specs.declared.options.Options.{Options}
 use Rattle.build_options.specs.declared.options.Switch.TheVariants.{On}
 use Rattle.build_options.specs.Options.{defaults}
 use Rattle.build_options.specs.Inputs.{Inputs}
-use Rattle.file_tree.specs.File.{headerOf, trailerOf}
+use Rattle.file_tree.specs.File.{header_of, trailer_of}
 use Rattle.read_answer.specs.declared.answer.ReadAnswer.TheVariants.{Filled, Refused}
 use Rattle.file_read.specs.Read.{Request}
 use Rattle.old_readers.specs.Premises.{AcceptedBuild, Call}
-use Rattle.worked_reads.specs.Instance.{WorkedRead, Instance, Worked, reportOf, stereoReports}
+use Rattle.worked_reads.specs.Instance.{WorkedRead, Instance, Worked, report_of, stereo_reports}
 
 -- the defaults, but for: DIIN with the given markers, artist and title, and pads counted inside the sizes
-abbrev pub taggedOptions : Options
-taggedOptions = record {
+abbrev pub tagged_options : Options
+tagged_options = record {
   channel_numbers = defaults.channel_numbers;
   unspecified_loudspeaker_configuration = defaults.unspecified_loudspeaker_configuration;
   loudspeaker_configuration = defaults.loudspeaker_configuration;
@@ -50,14 +50,14 @@ taggedOptions = record {
 
 -- one position. Artist "Zoë", whose last letter is replaced, title "Duet", comments "Night" and "Live"; markers: a track's start at 0 with flags 2 and the text "One", and a stop at the
 -- end without text, which has no flags. The caller's chunk has the name of DIIN's title and begins with a count of 0, but under FRM8 it is no text.
-abbrev pub taggedDsd : Inputs
-taggedDsd = record {
+abbrev pub tagged_dsd : Inputs
+tagged_dsd = record {
   area = record { sound = Dsd; playtime = 1; channels = 2; layout = Stereo; first = 0; end = 1 };
-  options = taggedOptions;
-  propertyOrder = propertyOrder;
-  infoOrder = infoOrder;
-  localOrder = localOrder;
-  localCount = 5;
+  options = tagged_options;
+  property_order = property_order;
+  info_order = info_order;
+  local_order = local_order;
+  local_count = 5;
   pool = ascii "Zo" ++ 235 ∷ ascii "DuetNightLive";
   raw = ascii "One" ++ (0 ∷ 0 ∷ 0 ∷ 0 ∷ 9 ∷ []);
   tracks = [];
@@ -68,16 +68,16 @@ taggedDsd = record {
 }
 
 -- its frame: no byte is zero, and those at its ends and in its middle stand nowhere else
-abbrev pub soundContent : List ℕ
-soundContent = 1 ∷ replicate 4_702 105 ++ 2 ∷ 3 ∷ replicate 4_702 150 ++ (4 ∷ [])
+abbrev pub sound_content : List ℕ
+sound_content = 1 ∷ replicate 4_702 105 ++ 2 ∷ 3 ∷ replicate 4_702 150 ++ (4 ∷ [])
 
 -- a read at an offset, lent this content; DSD has no lengths and no DST bytes
-abbrev pub dsdRequest : ℕ → List ℕ → Request
-dsdRequest offset contents = record {
+abbrev pub dsd_request : ℕ → List ℕ → Request
+dsd_request offset contents = record {
   format = record { sound = Dsd; crc = false; channels = 2; positions = 1 };
   lengths = [];
-  header = headerOf taggedDsd;
-  trailer = trailerOf taggedDsd;
+  header = header_of tagged_dsd;
+  trailer = trailer_of tagged_dsd;
   offset = offset;
   lent = [];
   frames = [];
@@ -85,68 +85,68 @@ dsdRequest offset contents = record {
 }
 
 -- in the header, into PROP's size
-abbrev pub inHeader : WorkedRead
-inHeader = record { request = dsdRequest 0 []; room = 41; answer = Filled 41 }
+abbrev pub in_header : WorkedRead
+in_header = record { request = dsd_request 0 []; room = 41; answer = Filled 41 }
 
 -- the rest of the header and half of the frame
-abbrev pub headerAndSound : WorkedRead
-headerAndSound = record { request = dsdRequest 41 soundContent; room = 4_995; answer = Filled 4_995 }
+abbrev pub header_and_sound : WorkedRead
+header_and_sound = record { request = dsd_request 41 sound_content; room = 4_995; answer = Filled 4_995 }
 
 -- no content is lent where the frame is needed
-abbrev pub withoutContent : WorkedRead
-withoutContent = record { request = dsdRequest 331 []; room = 2; answer = Refused 43 0 }
+abbrev pub without_content : WorkedRead
+without_content = record { request = dsd_request 331 []; room = 2; answer = Refused 43 0 }
 
 -- the other half, and five bytes of the trailer
-abbrev pub soundAndTrailer : WorkedRead
-soundAndTrailer = record { request = dsdRequest 5_036 soundContent; room = 4_709; answer = Filled 4_709 }
+abbrev pub sound_and_trailer : WorkedRead
+sound_and_trailer = record { request = dsd_request 5_036 sound_content; room = 4_709; answer = Filled 4_709 }
 
 -- from the fourth byte of the trailer on, with room for more than there is
-abbrev pub inTrailer : WorkedRead
-inTrailer = record { request = dsdRequest 9_743 []; room = 100; answer = Filled 15 }
+abbrev pub in_trailer : WorkedRead
+in_trailer = record { request = dsd_request 9_743 []; room = 100; answer = Filled 15 }
 
 -- at the end
-abbrev pub atEnd : WorkedRead
-atEnd = record { request = dsdRequest 9_758 []; room = 4; answer = Filled 0 }
+abbrev pub at_end : WorkedRead
+at_end = record { request = dsd_request 9_758 []; room = 4; answer = Filled 0 }
 
 -- what the readers get: up to CMPR; of the comments, whose first has no reference and a text of five bytes; and all
-abbrev pub dsdStereo : List Report
-dsdStereo = stereoReports (ascii "DSD " ++ 14 ∷ ascii "not compressed")
+abbrev pub dsd_stereo : List Report
+dsd_stereo = stereo_reports (ascii "DSD " ++ 14 ∷ ascii "not compressed")
 
-abbrev pub commentsValue : List ℕ
-commentsValue =
+abbrev pub comments_value : List ℕ
+comments_value =
     0 ∷ 2 ∷ 7 ∷ 232 ∷ 5 ∷ 6 ∷ 7 ∷ 8 ∷ 0 ∷ 0 ∷ 0 ∷ 0 ∷ 0 ∷ 0 ∷ 0 ∷ 5
     ∷ ascii "Night"
     ++ 7 ∷ 233 ∷ 12 ∷ 31 ∷ 23 ∷ 59 ∷ 0 ∷ 3 ∷ 0 ∷ 4 ∷ 0 ∷ 0 ∷ 0 ∷ 4
     ∷ ascii "Live"
 
-abbrev pub taggedReports : List Report
-taggedReports =
-    dsdStereo
-    ++ (reportOf "PROP" "LSCO" (0 ∷ 0 ∷ [])
-    ∷ reportOf "FRM8" "COMT" commentsValue
-    ∷ reportOf "FRM8" "DIIN" []
-    ∷ reportOf "DIIN" "EMID" []
-    ∷ reportOf "DIIN" "MARK" (0 ∷ 0 ∷ 0 ∷ 0 ∷ 0 ∷ 0 ∷ 0 ∷ 0 ∷ 0 ∷ 0 ∷ 0 ∷ 0 ∷ 0 ∷ 0 ∷ 0 ∷ 0 ∷ 0 ∷ 2 ∷ 0 ∷ 0 ∷ 0 ∷ 3 ∷ ascii "One")
-    ∷ reportOf "DIIN" "MARK" (0 ∷ 0 ∷ 0 ∷ 0 ∷ 0 ∷ 0 ∷ 147 ∷ 0 ∷ 0 ∷ 0 ∷ 0 ∷ 0 ∷ 0 ∷ 1 ∷ 0 ∷ 0 ∷ 0 ∷ 0 ∷ 0 ∷ 0 ∷ 0 ∷ 0 ∷ [])
-    ∷ reportOf "DIIN" "DIAR" (0 ∷ 0 ∷ 0 ∷ 3 ∷ ascii "Zo?")
-    ∷ reportOf "DIIN" "DITI" (0 ∷ 0 ∷ 0 ∷ 4 ∷ ascii "Duet")
-    ∷ reportOf "FRM8" "DSD " soundContent
-    ∷ reportOf "FRM8" "DITI" (0 ∷ 0 ∷ 0 ∷ 0 ∷ 9 ∷ [])
+abbrev pub tagged_reports : List Report
+tagged_reports =
+    dsd_stereo
+    ++ (report_of "PROP" "LSCO" (0 ∷ 0 ∷ [])
+    ∷ report_of "FRM8" "COMT" comments_value
+    ∷ report_of "FRM8" "DIIN" []
+    ∷ report_of "DIIN" "EMID" []
+    ∷ report_of "DIIN" "MARK" (0 ∷ 0 ∷ 0 ∷ 0 ∷ 0 ∷ 0 ∷ 0 ∷ 0 ∷ 0 ∷ 0 ∷ 0 ∷ 0 ∷ 0 ∷ 0 ∷ 0 ∷ 0 ∷ 0 ∷ 2 ∷ 0 ∷ 0 ∷ 0 ∷ 3 ∷ ascii "One")
+    ∷ report_of "DIIN" "MARK" (0 ∷ 0 ∷ 0 ∷ 0 ∷ 0 ∷ 0 ∷ 147 ∷ 0 ∷ 0 ∷ 0 ∷ 0 ∷ 0 ∷ 0 ∷ 1 ∷ 0 ∷ 0 ∷ 0 ∷ 0 ∷ 0 ∷ 0 ∷ 0 ∷ 0 ∷ [])
+    ∷ report_of "DIIN" "DIAR" (0 ∷ 0 ∷ 0 ∷ 3 ∷ ascii "Zo?")
+    ∷ report_of "DIIN" "DITI" (0 ∷ 0 ∷ 0 ∷ 4 ∷ ascii "Duet")
+    ∷ report_of "FRM8" "DSD " sound_content
+    ∷ report_of "FRM8" "DITI" (0 ∷ 0 ∷ 0 ∷ 0 ∷ 9 ∷ [])
     ∷ [])
 
-abbrev pub dsdInstance : Instance
-dsdInstance = record {
-  inputs = taggedDsd;
-  frames = record { code = []; content = soundContent } ∷ [];
-  headerLength = 332;
-  soundLength = 9_408;
-  trailerLength = 18;
-  reads = inHeader ∷ headerAndSound ∷ withoutContent ∷ soundAndTrailer ∷ inTrailer ∷ atEnd ∷ [];
-  soundNames = "FRM8DSD " ∷ [];
-  requiredReports = dsdStereo ++ (reportOf "FRM8" "DSD " soundContent ∷ []);
-  allReports = taggedReports;
+abbrev pub dsd_instance : Instance
+dsd_instance = record {
+  inputs = tagged_dsd;
+  frames = record { code = []; content = sound_content } ∷ [];
+  header_length = 332;
+  sound_length = 9_408;
+  trailer_length = 18;
+  reads = in_header ∷ header_and_sound ∷ without_content ∷ sound_and_trailer ∷ in_trailer ∷ at_end ∷ [];
+  sound_names = "FRM8DSD " ∷ [];
+  required_reports = dsd_stereo ++ (report_of "FRM8" "DSD " sound_content ∷ []);
+  all_reports = tagged_reports;
   end = 9_758;
 }
 
 abbrev pub WorkedDsd : AcceptedBuild → List Call → Type 0
-WorkedDsd b cs = Worked dsdInstance b cs
+WorkedDsd b cs = Worked dsd_instance b cs

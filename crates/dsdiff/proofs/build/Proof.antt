@@ -66,11 +66,11 @@ use Rattle.build_options.specs.contracts.options.Options as Op
 use Rattle.build_options.proofs.options.Options.TheLaws as Op'
 use Rattle.build_answer.specs.declared.answer.Answer.{Answer}
 use Rattle.dsdiff.specs.declared.marker.Marker.{Marker}
-use Rattle.build_options.specs.Inputs.{inputsOf}
+use Rattle.build_options.specs.Inputs.{inputs_of}
 use Rattle.assemble.specs.Build.{Builds}
-use Rattle.dsdiff.specs.Marker.{lookedAt}
+use Rattle.dsdiff.specs.Marker.{looked_at}
 use Rattle.dsdiff.specs.Table.{no_rows, filled}
-use Rattle.dsdiff.proofs.Zeros.{zeros, made, made-typed, rep-made, made_in}
+use Rattle.dsdiff.proofs.Zeros.{zeros, made, made_typed, rep_made, made_in}
 use Rattle.dsdiff.specs.contracts.marker.Marker as T
 use Rattle.build_answer.specs.contracts.answer.Answer as S
 use Rattle.build_answer.proofs.answer.Answer.TheLaws as S'
@@ -103,7 +103,7 @@ module _ {M : Type 1} {𝓤 : Ura M} (𝓛 : Logic 𝓤) (mem : Memory → SProp
 
 module _ {M : Type 1} {𝓤 : Ura M} (𝓛 : Logic 𝓤) (mem : Memory → SProp 𝓤) (run : Routine → Fun 𝓤) (κ₀ κ₁ κ₂ κ₃ κ₄ κ₅ κ₆ κ₇ κ₈ : Lft)
     (bounds : AllOutlive 9 (build.signature).outlives (κ₀, (κ₁, (κ₂, (κ₃, (κ₄, (κ₅, (κ₆, (κ₇, (κ₈, tt)))))))))) (q₀ q₁ q₂ q₃ q₄ q₅ q₆ q₇ q₈ : Share)
-    (area : Area) (options : Options) (propertyOrder : List PropertyChunk) (infoOrder : List InfoChunk) (localOrder : List LocalChunk) (localCount : ℕ)
+    (area : Area) (options : Options) (property_order : List PropertyChunk) (info_order : List InfoChunk) (local_order : List LocalChunk) (local_count : ℕ)
     (pool bytes tracks : MutBor (List ℕ)) (markers : MutBor (List Marker)) (comments callers lengths header trailer : MutBor (List ℕ)) (va vo vp vi vl : Val)
     (start : List ℕ) (start_is : start ≡ zeros 262140) (v : Val) (v-is : v ≡ made 262140) where
   -- a reference to the array in the block b, under the name δ at the list l, and its machine value
@@ -150,13 +150,13 @@ module _ {M : Type 1} {𝓤 : Ura M} (𝓛 : Logic 𝓤) (mem : Memory → SProp
   Arg = Area × (Options × (List PropertyChunk × (List InfoChunk × (List LocalChunk × (ℕ × (Bor (List ℕ) × (Bor (List ℕ) × (Bor (List ℕ) × (Bor (List Marker) × (Bor (List ℕ) × (Bor (List ℕ) × (Bor (List ℕ) × (Bor (List ℕ) × (Bor (List ℕ) × Unit {0}))))))))))))))
 
   abbrev a : Arg
-  a = (area, (options, (propertyOrder, (infoOrder, (localOrder, (localCount, (pool, (bytes, (tracks, (markers, (comments, (callers, (lengths, (header, (trailer, tt)))))))))))))))
+  a = (area, (options, (property_order, (info_order, (local_order, (local_count, (pool, (bytes, (tracks, (markers, (comments, (callers, (lengths, (header, (trailer, tt)))))))))))))))
 
   abbrev Values : Type 0
   Values = List Val × (List Val × (List Val × (List Val × (List Val × (List Val × (List Val × (List Val × (List Val × (List Val × (List Val × (List Val × (List Val × (List Val × (List Val × Unit {0}))))))))))))))
 
   abbrev vals : Values
-  vals = (va ∷ [], (vo ∷ [], (vp ∷ [], (vi ∷ [], (vl ∷ [], (vint w32 localCount ∷ [], (v-pool ∷ [], (v_bytes ∷ [], (v-tracks ∷ [], (v-markers ∷ [], (v-comments ∷ [], (v-callers ∷ [], (v-lengths ∷ [], (v-header ∷ [], (v-trailer ∷ [], tt)))))))))))))))
+  vals = (va ∷ [], (vo ∷ [], (vp ∷ [], (vi ∷ [], (vl ∷ [], (vint w32 local_count ∷ [], (v-pool ∷ [], (v_bytes ∷ [], (v-tracks ∷ [], (v-markers ∷ [], (v-comments ∷ [], (v-callers ∷ [], (v-lengths ∷ [], (v-header ∷ [], (v-trailer ∷ [], tt)))))))))))))))
 
   abbrev bound : (walk_of 𝓛 build.ended stayed (build.clauses 𝓛 mem run)).Ghost
   bound = (((κ₀, (κ₁, (κ₂, (κ₃, (κ₄, (κ₅, (κ₆, (κ₇, (κ₈, tt))))))))), (q₀, (q₁, (q₂, (q₃, (q₄, (q₅, (q₆, (q₇, (q₈, tt))))))))), bounds, a, vals), tt)
@@ -172,10 +172,10 @@ module _ {M : Type 1} {𝓤 : Ura M} (𝓛 : Logic 𝓤) (mem : Memory → SProp
   Lent = Bor (List ℕ) × (ℕ × (Area × (Options × (List PropertyChunk × (List InfoChunk × (List LocalChunk × (ℕ × (Bor (List ℕ) × (Bor (List ℕ) × (Bor (List ℕ) × (Bor (List ℕ) × (Bor (List ℕ) × (Bor (List ℕ) × (Bor (List ℕ) × (Bor (List ℕ) × Unit {0})))))))))))))))
 
   abbrev lent : ℕ → GName → List ℕ → Lent
-  lent b δ zs = (y b δ zs, (n, (area, (options, (propertyOrder, (infoOrder, (localOrder, (localCount, (pool, (bytes, (tracks, (comments, (callers, (lengths, (header, (trailer, tt))))))))))))))))
+  lent b δ zs = (y b δ zs, (n, (area, (options, (property_order, (info_order, (local_order, (local_count, (pool, (bytes, (tracks, (comments, (callers, (lengths, (header, (trailer, tt))))))))))))))))
 
   abbrev to-rows : ℕ → ℕ → GName → List ℕ → (Rows 𝓛 mem run).Ghost
-  to-rows b ν δ zs = (((ν ∷ [], (κ₀, (κ₁, (κ₂, (κ₄, (κ₅, (κ₆, (κ₇, (κ₈, tt))))))))), (full_share, (q₀, (q₁, (q₂, (q₄, (q₅, (q₆, (q₇, (q₈, tt))))))))), tt, lent b δ zs, (vy b ∷ [], (vint w64 n ∷ [], (va ∷ [], (vo ∷ [], (vp ∷ [], (vi ∷ [], (vl ∷ [], (vint w32 localCount ∷ [], (v-pool ∷ [], (v_bytes ∷ [], (v-tracks ∷ [], (v-comments ∷ [], (v-callers ∷ [], (v-lengths ∷ [], (v-header ∷ [], (v-trailer ∷ [], tt))))))))))))))))), tt)
+  to-rows b ν δ zs = (((ν ∷ [], (κ₀, (κ₁, (κ₂, (κ₄, (κ₅, (κ₆, (κ₇, (κ₈, tt))))))))), (full_share, (q₀, (q₁, (q₂, (q₄, (q₅, (q₆, (q₇, (q₈, tt))))))))), tt, lent b δ zs, (vy b ∷ [], (vint w64 n ∷ [], (va ∷ [], (vo ∷ [], (vp ∷ [], (vi ∷ [], (vl ∷ [], (vint w32 local_count ∷ [], (v-pool ∷ [], (v_bytes ∷ [], (v-tracks ∷ [], (v-comments ∷ [], (v-callers ∷ [], (v-lengths ∷ [], (v-header ∷ [], (v-trailer ∷ [], tt))))))))))))))))), tt)
 
   -- the lifetimes of what goes to `build_table`
   abbrev Tokens : Item 𝓤
@@ -183,10 +183,10 @@ module _ {M : Type 1} {𝓤 : Ura M} (𝓛 : Logic 𝓤) (mem : Memory → SProp
 
   -- what `build_table` ensures, at last lists h and t of the buffers
   abbrev Said : List ℕ → Answer → List ℕ → List ℕ → Type 0
-  Said zs r h t = (ms : List Marker) → zs ≡ filled no_rows 0 ms → n ≡ length ms → Builds (inputsOf area options propertyOrder infoOrder localOrder localCount pool.now bytes.now tracks.now (lookedAt options.custom_markers ms) comments.now callers.now lengths.now) header.now h trailer.now t r
+  Said zs r h t = (ms : List Marker) → zs ≡ filled no_rows 0 ms → n ≡ length ms → Builds (inputs_of area options property_order info_order local_order local_count pool.now bytes.now tracks.now (looked_at options.custom_markers ms) comments.now callers.now lengths.now) header.now h trailer.now t r
 
   exits : (r : Answer) (w : Val) (h t : List ℕ) → length h ≡ length header.now → length t ≡ length trailer.now
-      → Builds (inputsOf area options propertyOrder infoOrder localOrder localCount pool.now bytes.now tracks.now (lookedAt options.custom_markers markers.now) comments.now callers.now lengths.now) header.now h trailer.now t r
+      → Builds (inputs_of area options property_order info_order local_order local_count pool.now bytes.now tracks.now (looked_at options.custom_markers markers.now) comments.now callers.now lengths.now) header.now h trailer.now t r
       → ent 𝓤 (⋆ 𝓛 (‵ ((S.the_row).own_val r (w ∷ [])) ∷ Tokens ∷ ‵ (finally u8 header.name h) ∷ ‵ (finally u8 trailer.name t) ∷ ‵ (flft κ₃ q₃) ∷ [])) (Post w)
   exits r w h t lh lt e =
       qed 𝓛 (‵ ((S.the_row).own_val r (w ∷ [])) ∷ Tokens ∷ ‵ (finally u8 header.name h) ∷ ‵ (finally u8 trailer.name t) ∷ ‵ (flft κ₃ q₃) ∷ []) ∵
@@ -200,19 +200,19 @@ module _ {M : Type 1} {𝓤 : Ura M} (𝓛 : Logic 𝓤) (mem : Memory → SProp
       nothing ! $ fjoin ! $ nothing ! $ fjoin ! $ nothing ! $ fjoin ! $ nothing ! $ fjoin ! $ nothing ! $ fjoin ! $ nothing ! $ fjoin ! $ done !
 
   module _ (C : Calls 𝓤 H) (Λ : Loops 𝓤 H) (fm : FmC 𝓤 H 𝓛.laws C) (known-unpack : Triple 𝓤 (C #dsdiff·marker·unpack) (Unpack 𝓛 mem run)) (known-rows : Triple 𝓤 (C #dsdiff·build-table) (Rows 𝓛 mem run)) where
-    walk : Is Ar.the_row area (va ∷ []) → Is Op.the_row options (vo ∷ []) → Is (Array Pc.the_row 5) propertyOrder (vp ∷ []) → Is (Array Ic.the_row 4) infoOrder (vi ∷ []) → Is (Array Lc.the_row 5) localOrder (vl ∷ []) → localCount < 2 ^ 32
+    walk : Is Ar.the_row area (va ∷ []) → Is Op.the_row options (vo ∷ []) → Is (Array Pc.the_row 5) property_order (vp ∷ []) → Is (Array Ic.the_row 4) info_order (vi ∷ []) → Is (Array Lc.the_row 5) local_order (vl ∷ []) → local_count < 2 ^ 32
         → Room u32 (length pool.now) → Room u8 (length bytes.now) → Room u32 (length tracks.now) → Room T.the_row (length markers.now) → Room u32 (length comments.now) → Room u32 (length callers.now) → Room u32 (length lengths.now) → Room u8 (length header.now) → Room u8 (length trailer.now)
-        → ent 𝓤 (on_entry 𝓛 build.signature (κ₀, (κ₁, (κ₂, (κ₃, (κ₄, (κ₅, (κ₆, (κ₇, (κ₈, tt))))))))) (q₀, (q₁, (q₂, (q₃, (q₄, (q₅, (q₆, (q₇, (q₈, tt))))))))) a vals) (WpFn 𝓤 H C Λ code.function (va ∷ vo ∷ vp ∷ vi ∷ vl ∷ vint w32 localCount ∷ v-pool ∷ v_bytes ∷ v-tracks ∷ v-markers ∷ v-comments ∷ v-callers ∷ v-lengths ∷ v-header ∷ v-trailer ∷ []) Post)
+        → ent 𝓤 (on_entry 𝓛 build.signature (κ₀, (κ₁, (κ₂, (κ₃, (κ₄, (κ₅, (κ₆, (κ₇, (κ₈, tt))))))))) (q₀, (q₁, (q₂, (q₃, (q₄, (q₅, (q₆, (q₇, (q₈, tt))))))))) a vals) (WpFn 𝓤 H C Λ code.function (va ∷ vo ∷ vp ∷ vi ∷ vl ∷ vint w32 local_count ∷ v-pool ∷ v_bytes ∷ v-tracks ∷ v-markers ∷ v-comments ∷ v-callers ∷ v-lengths ∷ v-header ∷ v-trailer ∷ []) Post)
     walk is-area is-options is-property is-info is-local count_fits room-pool room-bytes room-tracks room-markers room-comments room-callers room-lengths room-header room-trailer =
         qed 𝓛 ((‵ (flft κ₀ q₀) ⊛ ‵ (flft κ₁ q₁) ⊛ ‵ (flft κ₂ q₂) ⊛ ‵ (flft κ₃ q₃) ⊛ ‵ (flft κ₄ q₄) ⊛ ‵ (flft κ₅ q₅) ⊛ ‵ (flft κ₆ q₆) ⊛ ‵ (flft κ₇ q₇) ⊛ ‵ (flft κ₈ q₈) ⊛ ‵ ftrue)
-        ∷ ‵ (owns (Ar.the_row ∷ Op.the_row ∷ Array Pc.the_row 5 ∷ Array Ic.the_row 4 ∷ Array Lc.the_row 5 ∷ u32 ∷ ShrSlice (named 0) κ₀ u32 ∷ ShrSlice (named 1) κ₁ u8 ∷ ShrSlice (named 2) κ₂ u32 ∷ ShrSlice (named 3) κ₃ T.the_row ∷ ShrSlice (named 4) κ₄ u32 ∷ ShrSlice (named 5) κ₅ u32 ∷ ShrSlice (named 6) κ₆ u32 ∷ MutSlice (named 7) κ₇ u8 ∷ MutSlice (named 8) κ₈ u8 ∷ []) a vals) ∷ []) ∵ enter ! C Λ code.function (va ∷ vo ∷ vp ∷ vi ∷ vl ∷ vint w32 localCount ∷ v-pool ∷ v_bytes ∷ v-tracks ∷ v-markers ∷ v-comments ∷ v-callers ∷ v-lengths ∷ v-header ∷ v-trailer ∷ []) _ $
+        ∷ ‵ (owns (Ar.the_row ∷ Op.the_row ∷ Array Pc.the_row 5 ∷ Array Ic.the_row 4 ∷ Array Lc.the_row 5 ∷ u32 ∷ ShrSlice (named 0) κ₀ u32 ∷ ShrSlice (named 1) κ₁ u8 ∷ ShrSlice (named 2) κ₂ u32 ∷ ShrSlice (named 3) κ₃ T.the_row ∷ ShrSlice (named 4) κ₄ u32 ∷ ShrSlice (named 5) κ₅ u32 ∷ ShrSlice (named 6) κ₆ u32 ∷ MutSlice (named 7) κ₇ u8 ∷ MutSlice (named 8) κ₈ u8 ∷ []) a vals) ∷ []) ∵ enter ! C Λ code.function (va ∷ vo ∷ vp ∷ vi ∷ vl ∷ vint w32 local_count ∷ v-pool ∷ v_bytes ∷ v-tracks ∷ v-markers ∷ v-comments ∷ v-callers ∷ v-lengths ∷ v-header ∷ v-trailer ∷ []) _ $
         alloc1 ! (λ l₀. alloc1 ! (λ l₁. alloc1 ! (λ l₂. alloc1 ! (λ l₃. alloc1 ! (λ l₄. alloc1 ! (λ l₅. alloc1 ! (λ l₆. alloc1 ! (λ l₇. alloc1 ! (λ l₈. alloc1 ! (λ l₉. alloc1 ! (λ l₁₀. alloc1 ! (λ l₁₁. alloc1 ! (λ l₁₂. alloc1 ! (λ l₁₃. alloc1 ! (λ l₁₄. alloc1 ! (λ l₁₅. alloc1 ! (λ l₁₆. alloc1 ! (λ l₁₇. alloc1 ! (λ l₁₈. alloc1 ! (λ l₁₉. alloc1 ! (λ l₂₀. alloc1 ! (λ l₂₁. alloc1 ! (λ l₂₂. alloc1 ! (λ l₂₃. alloc1 ! (λ l₂₄. alloc0 ! $
         params1 ! $
         pass1 ! (init ! 46 refl ((LL.lawful Ar.the_type Ar'.the_laws 𝓛).typed area _ is-area).0) $
         pass1 ! (init ! 44 refl ((LL.lawful Op.the_type Op'.the_laws 𝓛).typed options _ is-options).0) $
-        pass1 ! (init ! 42 refl (Array-Typed Pc.the_row (EL.lawful Pc.the_type Pc'.the_laws 𝓛 tt).typed 5 propertyOrder _ is-property).0) $
-        pass1 ! (init ! 40 refl (Array-Typed Ic.the_row (EL.lawful Ic.the_type Ic'.the_laws 𝓛 tt).typed 4 infoOrder _ is-info).0) $
-        pass1 ! (init ! 38 refl (Array-Typed Lc.the_row (EL.lawful Lc.the_type Lc'.the_laws 𝓛 tt).typed 5 localOrder _ is-local).0) $
+        pass1 ! (init ! 42 refl (Array-Typed Pc.the_row (EL.lawful Pc.the_type Pc'.the_laws 𝓛 tt).typed 5 property_order _ is-property).0) $
+        pass1 ! (init ! 40 refl (Array-Typed Ic.the_row (EL.lawful Ic.the_type Ic'.the_laws 𝓛 tt).typed 4 info_order _ is-info).0) $
+        pass1 ! (init ! 38 refl (Array-Typed Lc.the_row (EL.lawful Lc.the_type Lc'.the_laws 𝓛 tt).typed 5 local_order _ is-local).0) $
         pass1 ! (init ! 36 refl (tt, record { fits = count_fits })) $
         pass1 ! (init ! 34 refl (tt, (tt, (record { fits = room-pool.0 }, tt)))) $
         pass1 ! (init ! 32 refl (tt, (tt, (record { fits = room-bytes.0 }, tt)))) $
@@ -232,7 +232,7 @@ module _ {M : Type 1} {𝓤 : Ura M} (𝓛 : Logic 𝓤) (mem : Memory → SProp
         move ! (65 ∷ []) $ split ! $ move ! (1 ∷ []) $ split ! $ move ! (1 ∷ []) $ split ! $ move ! (1 ∷ []) $ split ! $ move ! (1 ∷ []) $ split ! $ move ! (1 ∷ []) $
         split ! $ move ! (1 ∷ []) $ split ! $ move ! (1 ∷ []) $ split ! $ move ! (1 ∷ []) $ split ! $ move ! (1 ∷ []) $ let_go ! $
         -- [κ₈; …; κ₀; trailer; …; area; _24; …]: the array is made, and is a value in memory
-        assigns ! (rep-made 262140 v v-is ! (lit ! tt)) (from ! (stop !)) (init ! 40 refl (made-typed 262140 v v-is)) $ move ! (40 ∷ []) $
+        assigns ! (rep_made 262140 v v-is ! (lit ! tt)) (from ! (stop !)) (init ! 40 refl (made_typed 262140 v v-is)) $ move ! (40 ∷ []) $
         use1 𝓛 (‵ (part_at Table full_share start l₁₆ 0)) (made_in 262140 v v-is start start_is 𝓛 l₁₆) $
         -- [the array; κ₈; …; κ₀; trailer; …; area; _24; …]: it is lent to `unpack` for a lifetime ν
         assigns ! (addr ! (from ! (stop !))) (from ! (stop !)) (init ! 37 refl (tt, tt)) $

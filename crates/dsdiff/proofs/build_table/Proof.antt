@@ -7,8 +7,8 @@ use native.Mathlib.Omega.{arith}
 use borrow.Author.Rules.{rules}
 use lib.Dec.{lit≤}
 use lib.ListN.{take}
-use Rattle.build_options.specs.Inputs.{Inputs, inputsOf}
-use Rattle.dsdiff.specs.Marker.{lookedAt}
+use Rattle.build_options.specs.Inputs.{Inputs, inputs_of}
+use Rattle.dsdiff.specs.Marker.{looked_at}
 use Rattle.assemble.proofs.BuildLaws.{refused}
 use Rattle.dsdiff.proofs.TableLaws.{looked, looked-none, by_rows, many-refused}
 use Rattle.dsdiff.proofs.build_table.Statement.{statement}
@@ -34,13 +34,13 @@ returns-2 c =
     let a = joined.before.before.before.before.before.before.before.before.before.args in
     let x : List ℕ → Inputs =
     λ rows.
-    inputsOf a.area a.options a.property-order a.info-order a.local-order a.local-count a.pool.now a.raw.now a.tracks.now rows
+    inputs_of a.area a.options a.property_order_lem a.info_order_lem a.local_order_lem a.local-count a.pool.now a.raw.now a.tracks.now rows
     a.comments.now a.callers.now a.lengths.now in
     let table = a.table.now in
     let rows = joined.if1.rows in
     let wanted = a.options.custom_markers in
     λ ms is count.
-    let same : take rows table ≡ lookedAt wanted ms =
+    let same : take rows table ≡ looked_at wanted ms =
     ⊎_elim (λ w. looked 262_140 table a.n rows ms wanted (lit≤ tt) is count w.0.taken w.1.left w.2)
     (λ w. looked-none table rows ms wanted w.0.left w.1) joined.if1.branch in
     by_rows x same c.before.before.before.before.build-part.ensures

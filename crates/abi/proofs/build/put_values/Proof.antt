@@ -2,7 +2,7 @@
 use mathlib.Core.Path.{ap, ◌∙◌}
 use borrow.Author.Rules.{rules}
 use Rattle.chunk.specs.Append.{overlay}
-use Rattle.refusal.proofs.Listed.{by-elements}
+use Rattle.refusal.proofs.Listed.{by_elements}
 use Rattle.abi.proofs.build.put_values.Statement.{statement}
 use Rattle.abi.proofs.build.put_values.Tie as tie
 
@@ -14,7 +14,7 @@ returns c =
     let c₁ = c₂.before.before.before.before in
     let start = c₁.before.before.before in
     rw (c₂.put2.ensures, c₁.put.ensures) at c₃.put3.ensures
-    ∙ ap (overlay start.args.out.now 0) (by-elements 0 3 start.args.t2 start.well-formed.1.0.1.0.1)
+    ∙ ap (overlay start.args.out.now 0) (by_elements 0 3 start.args.t2 start.well-formed.1.0.1.0.1)
 
 pub put-values-spec : {M : Type 1} → statement M
 put-values-spec =

@@ -1,11 +1,11 @@
 -- `dates::stamp` meets its contract. Assumes nothing.
 use borrow.Author.Rules.{rules}
-use Rattle.abi.specs.Dates.{stampOfWords}
+use Rattle.abi.specs.Dates.{stamp_of_words}
 use Rattle.abi.proofs.dates.stamp.Statement.{statement}
 use Rattle.abi.proofs.dates.stamp.Tie as tie
 
 returns : tie.Need-returns
-unfolding stampOfWords
+unfolding stamp_of_words
 returns c = cc
 
 pub stamp-spec : {M : Type 1} → statement M

@@ -17,12 +17,12 @@ returns c =
     let start = options.before in
     rw (
       made.new.ensures,
-      order.info-order.ensures,
+      order.info_order_lem.ensures,
       text₅.given-text5.ensures,
       text₄.given-text4.ensures,
       text₃.given-text3.ensures,
       text₂.given-text2.ensures,
-      source.artist-title-source.ensures,
+      source.artist_title_source.ensures,
       options.options.ensures,
       start.start.ensures,
       start.before.given-text.ensures,

@@ -10,7 +10,7 @@ returns c =
     let made = order.before.before.before in
     let start = made.before in
     let layout = start.before.before in
-    rw (made.new.ensures, order.property-order.ensures, start.start.ensures, layout.layout.ensures, layout.before.sound.ensures)
+    rw (made.new.ensures, order.property_order_lem.ensures, start.start.ensures, layout.layout.ensures, layout.before.sound.ensures)
     at c₁.property.ensures
 
 pub jangqeruz-property-spec : {M : Type 1} → statement M

@@ -5,16 +5,16 @@ use Prim.Native.Nat.{ℕ}
 use borrow.Author.Rules.{rules}
 use Rattle.read_rules.specs.declared.format.SoundFormat.{SoundFormat}
 use Rattle.read_answer.specs.declared.answer.ReadAnswer.{ReadAnswer}
-use Rattle.file_read.specs.Read.{requestOf, Reads}
+use Rattle.file_read.specs.Read.{request_of, Reads}
 use Rattle.abi.proofs.reads.jangqeruz_read.Statement.{statement}
 use Rattle.abi.proofs.reads.jangqeruz_read.Tie as tie
 
 -- the format that was made is the one that was told
 told : {f g : SoundFormat} (lengths header trailer : List ℕ) (offset : ℕ) (lent frames contents out : List ℕ) {last : List ℕ} {r : ReadAnswer} → f ≡ g
-    → Reads (requestOf f lengths header trailer offset lent frames contents) out last r
-    → Reads (requestOf g lengths header trailer offset lent frames contents) out last r
+    → Reads (request_of f lengths header trailer offset lent frames contents) out last r
+    → Reads (request_of g lengths header trailer offset lent frames contents) out last r
 told lengths header trailer offset lent frames contents out {last} {r} e p =
-    subst (λ (f : SoundFormat). Reads (requestOf f lengths header trailer offset lent frames contents) out last r) e p
+    subst (λ (f : SoundFormat). Reads (request_of f lengths header trailer offset lent frames contents) out last r) e p
 
 returns : tie.Need-returns
 returns c =

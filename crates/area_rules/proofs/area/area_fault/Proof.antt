@@ -1,11 +1,11 @@
 -- `area::area_fault` meets its contract. Assumes nothing.
-use Rattle.area_rules.specs.Area.{areaFault}
+use Rattle.area_rules.specs.Area.{area_fault}
 use borrow.Author.Rules.{rules}
 use Rattle.area_rules.proofs.area.area_fault.Statement.{statement}
 use Rattle.area_rules.proofs.area.area_fault.Tie as tie
 
 returns : tie.Need-returns
-unfolding areaFault
+unfolding area_fault
 returns c =
     rw (
       c.or-else2.ensures,

@@ -1,10 +1,10 @@
 -- `area::area_faults` meets its contract. Assumes nothing.
-use Rattle.area_rules.specs.Area.{areaFaults}
+use Rattle.area_rules.specs.Area.{area_faults}
 use Rattle.area_rules.proofs.area.area_faults.Statement.{statement}
 use Rattle.area_rules.proofs.area.area_faults.Tie as tie
 
 returns : tie.Need-returns
-unfolding areaFaults
+unfolding area_faults
 returns c =
     rw (
       c.or-else2.ensures,

@@ -1,11 +1,11 @@
 -- `area::lengths_fault` meets its contract. Assumes nothing.
-use Rattle.area_rules.specs.Area.{lengthsFault}
+use Rattle.area_rules.specs.Area.{lengths_fault}
 use borrow.Author.Rules.{rules}
 use Rattle.area_rules.proofs.area.lengths_fault.Statement.{statement}
 use Rattle.area_rules.proofs.area.lengths_fault.Tie as tie
 
 returns : tie.Need-returns
-unfolding lengthsFault
+unfolding lengths_fault
 returns c =
     rw (
       c.or_else.ensures,

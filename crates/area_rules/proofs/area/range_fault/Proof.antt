@@ -1,10 +1,10 @@
 -- `area::range_fault` meets its contract. Assumes nothing.
-use Rattle.area_rules.specs.Area.{rangeFault}
+use Rattle.area_rules.specs.Area.{range_fault}
 use Rattle.area_rules.proofs.area.range_fault.Statement.{statement}
 use Rattle.area_rules.proofs.area.range_fault.Tie as tie
 
 returns : tie.Need-returns
-unfolding rangeFault
+unfolding range_fault
 returns c =
     rw (
       c.or_else.ensures,

@@ -1,10 +1,10 @@
 -- `master::check_edited_master` meets its contract. Assumes nothing.
-use Rattle.area_rules.specs.Master.{editedMasterFault}
+use Rattle.area_rules.specs.Master.{edited_master_fault}
 use Rattle.area_rules.proofs.master.check_edited_master.Statement.{statement}
 use Rattle.area_rules.proofs.master.check_edited_master.Tie as tie
 
 returns : tie.Need-returns
-unfolding editedMasterFault
+unfolding edited_master_fault
 returns c =
     rw (
       c.when.ensures,

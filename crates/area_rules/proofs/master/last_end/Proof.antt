@@ -3,7 +3,7 @@ use mathlib.Core.Path.{◌≡◌, sym, ◌∙◌}
 use mathlib.Core.List.{List}
 use Prim.Native.Nat.{ℕ, ◌/◌}
 use lib.ListN.{length}
-use Rattle.tracks.specs.Track.{trackSpan}
+use Rattle.tracks.specs.Track.{track_span}
 use Rattle.area_rules.specs.Master.{last_end}
 use borrow.Author.Rules.{rules}
 use Rattle.area_rules.proofs.master.last_end.Statement.{statement}
@@ -11,7 +11,7 @@ use Rattle.area_rules.proofs.master.last_end.Tie as tie
 
 -- no track, no end
 none : (tracks : List ℕ) → length tracks / 4 ≡ 0 → 0 ≡ last_end tracks
-unfolding trackSpan
+unfolding track_span
 none tracks h = rw (last_end, h)
 
 returns : tie.Need-returns

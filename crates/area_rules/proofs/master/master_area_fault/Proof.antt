@@ -1,10 +1,10 @@
 -- `master::master_area_fault` meets its contract. Assumes nothing.
-use Rattle.area_rules.specs.Master.{masterAreaFault}
+use Rattle.area_rules.specs.Master.{master_area_fault}
 use Rattle.area_rules.proofs.master.master_area_fault.Statement.{statement}
 use Rattle.area_rules.proofs.master.master_area_fault.Tie as tie
 
 returns : tie.Need-returns
-unfolding masterAreaFault
+unfolding master_area_fault
 returns c =
     rw (
       c.or-else2.ensures,

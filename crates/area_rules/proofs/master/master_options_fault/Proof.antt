@@ -1,10 +1,10 @@
 -- `master::master_options_fault` meets its contract. Assumes nothing.
-use Rattle.area_rules.specs.Master.{masterOptionsFault}
+use Rattle.area_rules.specs.Master.{master_options_fault}
 use Rattle.area_rules.proofs.master.master_options_fault.Statement.{statement}
 use Rattle.area_rules.proofs.master.master_options_fault.Tie as tie
 
 returns : tie.Need-returns
-unfolding masterOptionsFault
+unfolding master_options_fault
 returns c =
     rw (
       c.or-else2.ensures,

@@ -1,10 +1,10 @@
 -- `master::master_tracks_fault` meets its contract. Assumes nothing.
-use Rattle.area_rules.specs.Master.{masterTracksFault}
+use Rattle.area_rules.specs.Master.{master_tracks_fault}
 use Rattle.area_rules.proofs.master.master_tracks_fault.Statement.{statement}
 use Rattle.area_rules.proofs.master.master_tracks_fault.Tie as tie
 
 returns : tie.Need-returns
-unfolding masterTracksFault
+unfolding master_tracks_fault
 returns c =
     rw (
       c.or-else2.ensures,

@@ -1,16 +1,16 @@
 -- `master::source_fault` meets its contract. Assumes nothing.
 use borrow.Author.Tests.{ne_eqb}
-use Rattle.area_rules.specs.Master.{sourceFault}
+use Rattle.area_rules.specs.Master.{source_fault}
 use borrow.Author.Rules.{rules}
 use Rattle.area_rules.proofs.master.source_fault.Statement.{statement}
 use Rattle.area_rules.proofs.master.source_fault.Tie as tie
 
 returns : tie.Need-returns
-unfolding sourceFault
+unfolding source_fault
 returns c = rw c.if1.true
 
 returns-2 : tie.Need-returns-2
-unfolding sourceFault
+unfolding source_fault
 returns-2 c =
     rw (
       ne_eqb _ _ c.before.before.before.before.before.before.before.if1.false,

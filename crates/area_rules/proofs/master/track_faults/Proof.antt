@@ -1,10 +1,10 @@
 -- `master::track_faults` meets its contract. Assumes nothing.
-use Rattle.area_rules.specs.Master.{trackFaults}
+use Rattle.area_rules.specs.Master.{track_faults}
 use Rattle.area_rules.proofs.master.track_faults.Statement.{statement}
 use Rattle.area_rules.proofs.master.track_faults.Tie as tie
 
 returns : tie.Need-returns
-unfolding trackFaults
+unfolding track_faults
 returns c =
     rw (
       c.or_else.ensures,

@@ -7,12 +7,12 @@ use Rattle.chunk.specs.Append.{Appended}
 use Rattle.tree.specs.Tree.{bytes, each}
 use Rattle.chunk.proofs.AppendLaws.{◌then◌, none}
 use Rattle.chunk.proofs.RowsLaws.{row_words}
-use Rattle.caller_chunks.proofs.CallerLaws.{row-whole, firstChunks, callers-next, callers-all}
+use Rattle.caller_chunks.proofs.CallerLaws.{row-whole, first_chunks, callers-next, callers_all}
 use Rattle.caller_chunks.proofs.callers.caller_chunks.Statement.{statement}
 use Rattle.caller_chunks.proofs.callers.caller_chunks.Tie as tie
 
 abbrev invariant-loop : tie.invariant-loop
-invariant-loop out₀ raw callers c₀ n i₀ out c i = (i ≤ n) × (length out ≡ length out₀) × Appended out₀ c₀.at (firstChunks raw callers i) out c.at
+invariant-loop out₀ raw callers c₀ n i₀ out c i = (i ≤ n) × (length out ≡ length out₀) × Appended out₀ c₀.at (first_chunks raw callers i) out c.at
 
 abbrev decreases-loop : tie.decreases-loop
 decreases-loop out₀ raw callers c₀ n i₀ out c i = n - i
@@ -41,7 +41,7 @@ loop-again c =
 returns : tie.Need-returns invariant-loop decreases-loop
 returns c =
     let start = c.before.before.before.before.before in
-    rw (callers-all start.args.raw.now start.args.callers.now c.before.loop.i (search rules)) at c.before.loop.invariant.2
+    rw (callers_all start.args.raw.now start.args.callers.now c.before.loop.i (search rules)) at c.before.loop.invariant.2
 
 pub caller-chunks-spec : {M : Type 1} → statement M
 caller-chunks-spec =

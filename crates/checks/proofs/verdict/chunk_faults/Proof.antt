@@ -1,10 +1,10 @@
 -- `verdict::chunk_faults` meets its contract. Assumes nothing.
-use Rattle.checks.specs.InputVerdict.{chunkFaults}
+use Rattle.checks.specs.InputVerdict.{chunk_faults}
 use Rattle.checks.proofs.verdict.chunk_faults.Statement.{statement}
 use Rattle.checks.proofs.verdict.chunk_faults.Tie as tie
 
 returns : tie.Need-returns
-unfolding chunkFaults
+unfolding chunk_faults
 returns c =
     rw (
       c.or-else2.ensures,

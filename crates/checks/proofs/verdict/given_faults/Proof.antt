@@ -1,10 +1,10 @@
 -- `verdict::given_faults` meets its contract. Assumes nothing.
-use Rattle.checks.specs.InputVerdict.{givenFaults}
+use Rattle.checks.specs.InputVerdict.{given_faults}
 use Rattle.checks.proofs.verdict.given_faults.Statement.{statement}
 use Rattle.checks.proofs.verdict.given_faults.Tie as tie
 
 returns : tie.Need-returns
-unfolding givenFaults
+unfolding given_faults
 returns c =
     rw (
       c.or_else.ensures,

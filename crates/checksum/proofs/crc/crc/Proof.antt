@@ -5,14 +5,14 @@ use Prim.Native.Nat.{ℕ, ◌-◌, ◌≤◌, ◌<◌}
 use native.Mathlib.Omega.{arith}
 use lib.ListN.{length, drop, drop_of_length-le}
 use borrow.Author.Rules.{rules}
-use Rattle.checksum.specs.Crc.{bytes_of, crcOf}
+use Rattle.checksum.specs.Crc.{bytes_of, crc_of}
 use Rattle.checksum.proofs.CrcTable.{rule}
 use Rattle.checksum.proofs.RingLaws.{step}
 use Rattle.checksum.proofs.crc.crc.Statement.{statement}
 use Rattle.checksum.proofs.crc.crc.Tie as tie
 
 abbrev invariant-loop : tie.invariant-loop
-invariant-loop content table n r₀ i₀ r i = (i ≤ length content) × (bytes_of r (drop i content) ≡ crcOf content)
+invariant-loop content table n r₀ i₀ r i = (i ≤ length content) × (bytes_of r (drop i content) ≡ crc_of content)
 
 abbrev decreases-loop : tie.decreases-loop
 decreases-loop content table n r₀ i₀ r i = length content - i
@@ -21,7 +21,7 @@ words-requires : tie.Need-words-requires invariant-loop decreases-loop
 words-requires c κs = (rule, omega arith)
 
 loop-holds : tie.Need-loop-init invariant-loop decreases-loop
-unfolding crcOf
+unfolding crc_of
 loop-holds c =
     let s = c.before.before.args.content.now in
     ⊎_elim

@@ -6,7 +6,7 @@ use borrow.Author.Rules.{rules}
 use lib.ListN.{drop}
 use Rattle.checksum.specs.Crc.{bytes_of}
 use Rattle.checksum.specs.Steps.{feed}
-use Rattle.checksum.proofs.RingLaws.{low, low-none, low-next, low-fed}
+use Rattle.checksum.proofs.RingLaws.{low, low-none, low-next, low_fed}
 use Rattle.checksum.proofs.fold.word.Statement.{statement}
 use Rattle.checksum.proofs.fold.word.Tie as tie
 
@@ -30,7 +30,7 @@ returns c =
     low-next s i 7 _ _ c.push8.ensures.0 (low-next s (i + 1) 6 _ _ c₇.push7.ensures.0
     (low-next s (i + 1 + 1) 5 _ _ c₆.push6.ensures.0 (low-next s (i + 1 + 1 + 1) 4 _ _ c₅.push5.ensures.0 high))) in
     λ r.
-    low-fed 8 s i r g.requires (λ k. omega (arith, c.before.shared-slice-known9.given k))
+    low_fed 8 s i r g.requires (λ k. omega (arith, c.before.shared-slice-known9.given k))
     ∙ ap (λ (x : ℕ). bytes_of (feed 8 r x) (drop (i + 8) s)) (sym w)
 
 pub word-spec : {M : Type 1} → statement M

@@ -1,10 +1,10 @@
 -- `comments::comment_at` meets its contract. Assumes nothing.
-use Rattle.comt.specs.Comment.{commentOf}
+use Rattle.comt.specs.Comment.{comment_of}
 use Rattle.comment_faults.proofs.comments.comment_at.Statement.{statement}
 use Rattle.comment_faults.proofs.comments.comment_at.Tie as tie
 
 returns : tie.Need-returns
-unfolding commentOf
+unfolding comment_of
 returns c = cc
 
 pub comment-at-spec : {M : Type 1} → statement M

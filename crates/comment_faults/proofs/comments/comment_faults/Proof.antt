@@ -3,8 +3,8 @@ use mathlib.Core.Path.{◌≡◌, refl}
 use Prim.Native.Nat.{◌+◌, ◌-◌, ◌≤◌}
 use native.Mathlib.Omega.{arith}
 use borrow.Author.Rules.{rules}
-use Rattle.refusal.specs.Below.{firstRefused, howMany}
-use Rattle.comment_faults.specs.Comments.{writtenAt, commentFault, commentFaults}
+use Rattle.refusal.specs.Below.{first_refused, how_many}
+use Rattle.comment_faults.specs.Comments.{written_at, comment_fault, comment_faults}
 use Rattle.refusal.proofs.BelowLaws.{below_none, below_more, below_all}
 use Rattle.refusal.proofs.CountLaws.{at_most}
 use Rattle.comment_faults.proofs.comments.comment_faults.Statement.{statement}
@@ -13,7 +13,7 @@ use Rattle.comment_faults.proofs.comments.comment_faults.Tie as tie
 abbrev invariant-loop : tie.invariant-loop
 invariant-loop comments pool options channels n v₀ before₀ k₀ v before k =
     (k ≤ n)
-    × ((v ≡ firstRefused (commentFault comments pool options channels) k) × (before ≡ howMany (writtenAt comments pool options channels) k))
+    × ((v ≡ first_refused (comment_fault comments pool options channels) k) × (before ≡ how_many (written_at comments pool options channels) k))
 
 abbrev decreases-loop : tie.decreases-loop
 decreases-loop comments pool options channels n v₀ before₀ k₀ v before k = n - k
@@ -34,10 +34,10 @@ add-before : tie.Need-overflow-add-before invariant-loop decreases-loop
 add-before c =
     let at = c.before.before.before.before.before.before in
     let a = at.before.before.before.before.args in
-    omega (arith, at_most (writtenAt a.comments.now a.pool.now a.options a.channels) (at.loop.k + 1), (loop-again c).1.1)
+    omega (arith, at_most (written_at a.comments.now a.pool.now a.options a.channels) (at.loop.k + 1), (loop-again c).1.1)
 
 returns : tie.Need-returns invariant-loop decreases-loop
-unfolding commentFaults
+unfolding comment_faults
 returns c =
     rw (← c.before.before.count.ensures) (below_all _ _ _ _ _ c.before.loop.invariant.1.0 c.before.loop.invariant.0 c.loop-test.false)
 

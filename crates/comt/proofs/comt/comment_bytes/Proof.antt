@@ -4,7 +4,7 @@ use mathlib.Core.List.{◌++◌}
 use borrow.Author.Rules.{rules}
 use Rattle.chunk.specs.Number.{be}
 use Rattle.texts.specs.Extent.{part}
-use Rattle.texts.specs.Text.{textBytes}
+use Rattle.texts.specs.Text.{text_bytes}
 use Rattle.comt.proofs.comt.comment_bytes.Statement.{statement}
 use Rattle.comt.proofs.comt.comment_bytes.Tie as tie
 
@@ -15,7 +15,7 @@ returns c =
     let c₁ = c₂.before.before.before.before in
     let head = rw c₁.before.before.before.comment-head.ensures at c₁.bytes.ensures in
     let args = c₁.before.before.before.before.before.before.before.args in
-    let counted = be 4 args.count ++ textBytes args.rule (part args.pool.now args.c.text) in
+    let counted = be 4 args.count ++ text_bytes args.rule (part args.pool.now args.c.text) in
     ◌then◌ {cs = counted} head c₂.counted-text.ensures then c₃.pad.ensures
 
 pub comment-bytes-spec : {M : Type 1} → statement M

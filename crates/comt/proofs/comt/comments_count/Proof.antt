@@ -5,12 +5,12 @@ use Prim.Native.Nat.{◌+◌, ◌≤◌, ◌-◌}
 use native.Mathlib.Omega.{arith}
 use borrow.Author.Rules.{rules}
 use lib.ListN.{length, length-append}
-use Rattle.comt.proofs.CommentLaws.{firstComments, row-whole, comments-next, comments-all, comments-few}
+use Rattle.comt.proofs.CommentLaws.{first_comments, row-whole, comments-next, comments_all, comments-few}
 use Rattle.comt.proofs.comt.comments_count.Statement.{statement}
 use Rattle.comt.proofs.comt.comments_count.Tie as tie
 
 abbrev invariant-loop : tie.invariant-loop
-invariant-loop pool words options n count₀ i₀ count i = (i ≤ n) × (count ≡ length (firstComments pool options words i))
+invariant-loop pool words options n count₀ i₀ count i = (i ≤ n) × (count ≡ length (first_comments pool options words i))
 
 abbrev decreases-loop : tie.decreases-loop
 decreases-loop pool words options n count₀ i₀ count i = n - i
@@ -42,7 +42,7 @@ add-count c =
 returns : tie.Need-returns invariant-loop decreases-loop
 returns c =
     let start = c.before.before.before.before in
-    let all = comments-all start.args.pool.now start.args.options start.args.rows.now c.before.loop.i (search rules) in
+    let all = comments_all start.args.pool.now start.args.options start.args.rows.now c.before.loop.i (search rules) in
     rw all at c.before.loop.invariant.1
 
 pub comments-count-spec : {M : Type 1} → statement M

@@ -3,26 +3,26 @@ use mathlib.Core.Path.{◌≡◌, refl, sym, ◌∙◌}
 use mathlib.Core.Bool.{true, false}
 use lib.ListN.{length}
 use Rattle.texts.specs.Extent.{part}
-use Rattle.texts.specs.Text.{textBytes, is_written}
-use Rattle.comt.specs.Comment.{asWritten, writtenComment}
+use Rattle.texts.specs.Text.{text_bytes, is_written}
+use Rattle.comt.specs.Comment.{as_written, written_comment}
 use Rattle.comt.proofs.comt.one_if_written.Statement.{statement}
 use Rattle.comt.proofs.comt.one_if_written.Tie as tie
 
 returns : tie.Need-returns
-unfolding writtenComment asWritten
+unfolding written_comment as_written
 returns c =
     let a = c.before.before.before.before.before.args in
     let o = a.options in
-    let has : is_written o (length (textBytes o.rule (part a.pool.now a.c.text))) ≡ true =
+    let has : is_written o (length (text_bytes o.rule (part a.pool.now a.c.text))) ≡ true =
     rw (← c.before.before.text-count.ensures) (sym c.before.writes.ensures ∙ c.if1.true) in
     rw has refl
 
 returns-2 : tie.Need-returns-2
-unfolding writtenComment asWritten
+unfolding written_comment as_written
 returns-2 c =
     let a = c.before.before.before.before.before.args in
     let o = a.options in
-    let has-not : is_written o (length (textBytes o.rule (part a.pool.now a.c.text))) ≡ false =
+    let has-not : is_written o (length (text_bytes o.rule (part a.pool.now a.c.text))) ≡ false =
     rw (← c.before.before.text-count.ensures) (sym c.before.writes.ensures ∙ c.if1.false) in
     rw has-not refl
 

@@ -3,26 +3,26 @@ use mathlib.Core.List.{flat_map}
 use borrow.Author.Rules.{rules}
 use Rattle.chunk.specs.Chunk.{counts}
 use Rattle.chunk.proofs.AppendLaws.{none}
-use Rattle.chunk.proofs.ListLaws.{flatMap-one}
-use Rattle.comt.specs.Comment.{asWritten, writtenComment, commentBytes}
+use Rattle.chunk.proofs.ListLaws.{flat_map-one}
+use Rattle.comt.specs.Comment.{as_written, written_comment, comment_bytes}
 use Rattle.texts.proofs.TextLaws.{left_out, written}
 use Rattle.comt.proofs.comt.written_comment.Statement.{statement}
 use Rattle.comt.proofs.comt.written_comment.Tie as tie
 
 returns : tie.Need-returns
-unfolding writtenComment asWritten flat_map
+unfolding written_comment as_written flat_map
 returns c =
     let o = c.before.before.before.before.before.before.args.options in
     rw (left_out o c.before.before.text-count.ensures c.before.writes.ensures c.if1.true) (none (search rules) (search rules))
 
 returns-2 : tie.Need-returns-2
-unfolding writtenComment asWritten commentBytes counts
+unfolding written_comment as_written comment_bytes counts
 returns-2 c =
     let c₁ = c.before.before in
     let go = c₁.before.before in
     let count = go.before.before.text-count.ensures in
     let o = go.before.before.before.before.before.before.args.options in
-    rw (written o count go.before.writes.ensures go.if1.false) (rw (flatMap-one) (rw count at c₁.comment-bytes.ensures))
+    rw (written o count go.before.writes.ensures go.if1.false) (rw (flat_map-one) (rw count at c₁.comment-bytes.ensures))
 
 pub written-comment-spec : {M : Type 1} → statement M
 written-comment-spec =

@@ -6,15 +6,15 @@ use borrow.Author.Rules.{rules}
 use lib.ListN.{length}
 use Rattle.chunk.specs.Append.{Appended}
 use Rattle.chunk.proofs.AppendLaws.{◌then◌, none}
-use Rattle.chunk.proofs.ListLaws.{flatMap-append}
-use Rattle.comt.specs.Comment.{commentBytes}
-use Rattle.comt.proofs.CommentLaws.{firstComments, row-whole, comments-next, comments-all}
+use Rattle.chunk.proofs.ListLaws.{flat_map-append}
+use Rattle.comt.specs.Comment.{comment_bytes}
+use Rattle.comt.proofs.CommentLaws.{first_comments, row-whole, comments-next, comments_all}
 use Rattle.comt.proofs.comt.written_comments.Statement.{statement}
 use Rattle.comt.proofs.comt.written_comments.Tie as tie
 
 abbrev invariant-loop : tie.invariant-loop
 invariant-loop out₀ pool words options n p₀ i₀ out p i =
-    (i ≤ n) × (length out ≡ length out₀) × Appended out₀ p₀.at (flat_map commentBytes (firstComments pool options words i)) out p.at
+    (i ≤ n) × (length out ≡ length out₀) × Appended out₀ p₀.at (flat_map comment_bytes (first_comments pool options words i)) out p.at
 
 abbrev decreases-loop : tie.decreases-loop
 decreases-loop out₀ pool words options n p₀ i₀ out p i = n - i
@@ -36,12 +36,12 @@ loop-again c =
     let start = turn.before.before.before.before in
     let next = comments-next start.args.pool.now start.args.options start.args.rows.now turn.loop.i (search rules) in
     let added = rw row.comment-of.ensures at c₁.written-comment.ensures in
-    (search rules, search rules, rw (next, flatMap-append) (turn.loop.invariant.2 then added))
+    (search rules, search rules, rw (next, flat_map-append) (turn.loop.invariant.2 then added))
 
 returns : tie.Need-returns invariant-loop decreases-loop
 returns c =
     let start = c.before.before.before.before.before in
-    let all = comments-all start.args.pool.now start.args.options start.args.rows.now c.before.loop.i (search rules) in
+    let all = comments_all start.args.pool.now start.args.options start.args.rows.now c.before.loop.i (search rules) in
     rw all at c.before.loop.invariant.2
 
 pub written-comments-spec : {M : Type 1} → statement M

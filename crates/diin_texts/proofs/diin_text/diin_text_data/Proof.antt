@@ -4,7 +4,7 @@ use mathlib.Core.List.{◌++◌}
 use borrow.Author.Rules.{rules}
 use Rattle.chunk.specs.Number.{be}
 use Rattle.texts.specs.Extent.{part}
-use Rattle.texts.specs.Text.{textBytes}
+use Rattle.texts.specs.Text.{text_bytes}
 use Rattle.diin_texts.proofs.diin_text.diin_text_data.Statement.{statement}
 use Rattle.diin_texts.proofs.diin_text.diin_text_data.Tie as tie
 
@@ -13,7 +13,7 @@ returns c =
     let c₂ = c.before.before in
     let c₁ = c₂.before.before.before.before in
     let args = c₁.before.before.before.before.args in
-    let counted = be 4 args.count ++ textBytes args.options.rule (part args.pool.now args.text) in
+    let counted = be 4 args.count ++ text_bytes args.options.rule (part args.pool.now args.text) in
     ◌then◌ {bs = counted} c₁.counted-text.ensures c₂.text-pad.ensures
 
 pub diin-text-data-spec : {M : Type 1} → statement M

@@ -4,22 +4,22 @@ use borrow.Author.Rules.{rules}
 use Rattle.chunk.specs.Chunk.{counts}
 use Rattle.chunk.proofs.AppendLaws.{none}
 use Rattle.chunk.proofs.SizeLastLaws.{chunk-size-last}
-use Rattle.diin_texts.specs.DiinText.{givenTextBytes, diinTextData}
+use Rattle.diin_texts.specs.DiinText.{given_text_bytes, diin_text_data}
 use Rattle.texts.specs.Extent.{part}
-use Rattle.texts.specs.Text.{textBytes}
-use Rattle.texts.proofs.TextLaws.{left_out, written, extent-short}
+use Rattle.texts.specs.Text.{text_bytes}
+use Rattle.texts.proofs.TextLaws.{left_out, written, extent_short}
 use Rattle.diin_texts.proofs.DiinTextLaws.{length-diin-text}
 use Rattle.diin_texts.proofs.diin_text.given_text.Statement.{statement}
 use Rattle.diin_texts.proofs.diin_text.given_text.Tie as tie
 
 returns : tie.Need-returns
-unfolding givenTextBytes
+unfolding given_text_bytes
 returns c =
     let o = c.before.before.before.before.before.args.options in
     rw (left_out o c.before.before.text-count.ensures c.before.writes.ensures c.if1.true) (none (search rules) (search rules))
 
 returns-2 : tie.Need-returns-2
-unfolding givenTextBytes diinTextData counts
+unfolding given_text_bytes diin_text_data counts
 returns-2 c =
     let close = c.before.before in
     let inside = close.before.before.before.before in
@@ -30,8 +30,8 @@ returns-2 c =
     let start = go.before.before.before.before.before in
     let count = go.before.before.text-count.ensures in
     let o = start.args.options in
-    let text = textBytes o.rule (part start.args.pool.now start.args.text) in
-    let short = extent-short o.rule start.args.pool.now start.args.text in
+    let text = text_bytes o.rule (part start.args.pool.now start.args.text) in
+    let short = extent_short o.rule start.args.pool.now start.args.text in
     rw (written o count go.before.writes.ensures go.if1.false)
     (chunk-size-last start.args.id (omega (arith, short, length-diin-text text o))
     name.name.ensures from.data-start.ensures new.new.ensures (rw count at inside.diin-text-data.ensures) close.close.ensures)

@@ -8,11 +8,11 @@ use lib.ListN.{length, replicate}
 use lib.Dec.{eqb}
 use borrow.Author.Tests.{eq-eqb, ne_eqb}
 use borrow.Author.Rules.{rules}
-use Rattle.sound_reads.specs.Positions.{positionsFor, number}
-use Rattle.dst.specs.Frame.{frameBytes}
+use Rattle.sound_reads.specs.Positions.{positions_for, number}
+use Rattle.dst.specs.Frame.{frame_bytes}
 use Rattle.dst.proofs.FrameLaws.{sound-short}
 use Rattle.dsd_reads.proofs.DsdLaws.{wanted-known, filled-contents}
-use Rattle.sound_reads.proofs.PlaceLaws.{inside, byte-at}
+use Rattle.sound_reads.proofs.PlaceLaws.{inside, byte_at_lem}
 use Rattle.dsd_reads.proofs.dsd_data.fill.Statement.{statement}
 use Rattle.dsd_reads.proofs.dsd_data.fill.Tie as tie
 
@@ -24,21 +24,21 @@ short c =
 
 -- the positions that were found are those that the read needs
 wanted : (c : tie.After-touched) → let a = c.before.before.before.before.before.before.args in
-    c.touched.result ≡ positionsFor (replicate a.n (frameBytes a.channels)) a.w.skip (length a.out.now - a.w.at)
+    c.touched.result ≡ positions_for (replicate a.n (frame_bytes a.channels)) a.w.skip (length a.out.now - a.w.at)
 wanted c =
     let a = c.before.before.before.before.before.before.args in
     let f = c.before.before.before.frame-bytes in
-    rw (← f.ensures, ← byte-at (replicate a.n f.result) a.w.skip, ← c.before.before.locate.ensures, ← c.before.room.ensures) c.touched.ensures
+    rw (← f.ensures, ← byte_at_lem (replicate a.n f.result) a.w.skip, ← c.before.before.locate.ensures, ← c.before.room.ensures) c.touched.ensures
 
 known : (c : tie.After-touched) → let a = c.before.before.before.before.before.before.args in
     (c.touched.result.first ≤ c.touched.result.end) × (c.touched.result.end ≤ a.n)
 known c =
     let a = c.before.before.before.before.before.before.args in
-    rw (wanted c) (wanted-known (frameBytes a.channels) a.n a.contents.now a.w a.out.now)
+    rw (wanted c) (wanted-known (frame_bytes a.channels) a.n a.contents.now a.w a.out.now)
 
 -- what is lent is what those positions have
 is-given : (c : tie.Else1) → let a = c.before.before.before.before.before.before.before.args in
-    frameBytes a.channels * number (positionsFor (replicate a.n (frameBytes a.channels)) a.w.skip (length a.out.now - a.w.at)) ≡ length a.contents.now
+    frame_bytes a.channels * number (positions_for (replicate a.n (frame_bytes a.channels)) a.w.skip (length a.out.now - a.w.at)) ≡ length a.contents.now
 is-given c = rw (← wanted c.before, ← c.before.before.before.before.frame-bytes.ensures) c.if1.false
 
 locate-requires : tie.Need-locate-requires
@@ -63,7 +63,7 @@ mul-if1 c =
 returns : tie.Need-returns
 returns c =
     let a = c.before.before.before.before.before.before.before.args in
-    let f : eqb (frameBytes a.channels * number (positionsFor (replicate a.n (frameBytes a.channels)) a.w.skip (length a.out.now - a.w.at))) (length a.contents.now) ≡ false =
+    let f : eqb (frame_bytes a.channels * number (positions_for (replicate a.n (frame_bytes a.channels)) a.w.skip (length a.out.now - a.w.at))) (length a.contents.now) ≡ false =
     rw (← wanted c.before, ← c.before.before.before.before.frame-bytes.ensures) (ne_eqb _ _ c.if1.true) in
     rw f (record { answer = refl; buffer = refl })
 
@@ -73,9 +73,9 @@ returns-2 c =
     let a = e.before.before.before.before.before.before.before.args in
     let f = e.before.before.before.before.frame-bytes in
     let g = is-given e in
-    let t = eq-eqb (frameBytes a.channels * number (positionsFor (replicate a.n (frameBytes a.channels)) a.w.skip (length a.out.now - a.w.at))) (length a.contents.now) g in
+    let t = eq-eqb (frame_bytes a.channels * number (positions_for (replicate a.n (frame_bytes a.channels)) a.w.skip (length a.out.now - a.w.at))) (length a.contents.now) g in
     rw (t, c.filled.ensures, e.before.before.before.locate.ensures, f.ensures)
-    (filled-contents (frameBytes a.channels) a.n a.contents.now a.w a.out.now g {v = c.before.before.before.put.result}
+    (filled-contents (frame_bytes a.channels) a.n a.contents.now a.w a.out.now g {v = c.before.before.before.put.result}
     (rw (← f.ensures, ← e.before.before.before.locate.ensures) c.before.before.before.put.ensures))
 
 pub fill_spec : {M : Type 1} → statement M

@@ -1,7 +1,7 @@
 -- `dsd_data::positions` meets its contract. Assumes nothing.
 use lib.ListN.{replicate}
 use Rattle.dst.proofs.FrameLaws.{sound-short}
-use Rattle.sound_reads.proofs.PlaceLaws.{inside, byte-at}
+use Rattle.sound_reads.proofs.PlaceLaws.{inside, byte_at_lem}
 use Rattle.dsd_reads.proofs.dsd_data.positions.Statement.{statement}
 use Rattle.dsd_reads.proofs.dsd_data.positions.Tie as tie
 
@@ -19,7 +19,7 @@ returns : tie.Need-returns
 returns c =
     let a = c.before.before.before.args in
     let f = c.before.before.frame-bytes in
-    rw (← f.ensures, ← byte-at (replicate a.n f.result) a.from, ← c.before.locate.ensures) c.touched.ensures
+    rw (← f.ensures, ← byte_at_lem (replicate a.n f.result) a.from, ← c.before.locate.ensures) c.touched.ensures
 
 pub positions-spec : {M : Type 1} → statement M
 positions-spec =

@@ -4,7 +4,7 @@ use native.Mathlib.Nat.{div-le_self}
 use native.Mathlib.Omega.{arith}
 use lib.ListN.{replicate, length-replicate}
 use borrow.Author.Rules.{rules}
-use Rattle.dsd_reads.proofs.DsdLaws.{within-frame, ends-here, ends-later, ends_last}
+use Rattle.dsd_reads.proofs.DsdLaws.{within-frame, ends_here, ends-later, ends_last}
 use Rattle.sound_reads.proofs.PositionsLaws.{none-touched, some-touched}
 use Rattle.dsd_reads.proofs.dsd_data.touched.Statement.{statement}
 use Rattle.dsd_reads.proofs.dsd_data.touched.Tie as tie
@@ -31,7 +31,7 @@ returns-2 : tie.Need-returns-2
 returns-2 c =
     let e = c.before.before in
     let a = e.before.args in
-    ends-here a.frame a.n a.place.position a.place.within a.count (some e).1 (within e) (some e).0 c.if2.true
+    ends_here a.frame a.n a.place.position a.place.within a.count (some e).1 (within e) (some e).0 c.if2.true
 
 div-more : tie.Need-nonzero-div-more
 div-more c = let h = within c.before.before in omega (arith, h)

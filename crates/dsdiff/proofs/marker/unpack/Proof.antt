@@ -57,7 +57,7 @@ use denote.Triple.Walked.{says, Stays, stay_none_slice, stay_ref, walk_of, Walks
 use denote.Exit.{yes}
 use Rattle.dsdiff.specs.declared.marker.Marker.{Marker}
 use Rattle.dsdiff.specs.Table.{stored, filled}
-use Rattle.dsdiff.proofs.TableLaws.{noMarker}
+use Rattle.dsdiff.proofs.TableLaws.{no_marker}
 use Rattle.dsdiff.specs.contracts.marker.Marker as T
 use Rattle.dsdiff.proofs.marker.Marker.TheLaws as T'
 use Rattle.dsdiff.specs.contracts.marker.put as put
@@ -84,12 +84,12 @@ module _ {ms : List Marker} {ts : List ℕ} where
   fewer-wf : WellFounded Fewer
   fewer-wf = InvImage.wf (λ (t : Turn ms ts). length ms - t.i) lt-wf_rel.wf
 
-  stored-left : (t : Turn ms ts) (zs : List ℕ) → t.i < length ms → zs ≡ stored t.ys t.i (get_or ms t.i noMarker) → filled zs (t.i + 1) (drop (t.i + 1) ms) ≡ filled ts 0 ms
+  stored-left : (t : Turn ms ts) (zs : List ℕ) → t.i < length ms → zs ≡ stored t.ys t.i (get_or ms t.i no_marker) → filled zs (t.i + 1) (drop (t.i + 1) ms) ≡ filled ts 0 ms
   unfolding filled
-  stored-left t zs within e = ap (λ (z : List ℕ). filled z (t.i + 1) (drop (t.i + 1) ms)) e ∙ ap (λ (k : ℕ). filled (stored t.ys t.i (get_or ms t.i noMarker)) (t.i + 1) (drop k ms)) (add-one t.i)
-      ∙ ap (λ (l : List Marker). filled t.ys t.i l) (sym (drop-cons ms t.i noMarker within)) ∙ t.left
+  stored-left t zs within e = ap (λ (z : List ℕ). filled z (t.i + 1) (drop (t.i + 1) ms)) e ∙ ap (λ (k : ℕ). filled (stored t.ys t.i (get_or ms t.i no_marker)) (t.i + 1) (drop k ms)) (add-one t.i)
+      ∙ ap (λ (l : List Marker). filled t.ys t.i l) (sym (drop-cons ms t.i no_marker within)) ∙ t.left
 
-  abbrev after : (t : Turn ms ts) (zs : List ℕ) → t.i < length ms → zs ≡ stored t.ys t.i (get_or ms t.i noMarker) → Turn ms ts
+  abbrev after : (t : Turn ms ts) (zs : List ℕ) → t.i < length ms → zs ≡ stored t.ys t.i (get_or ms t.i no_marker) → Turn ms ts
   after t zs within e = record { i = t.i + 1; ys = zs; left = stored-left t zs within e }
 
   all-stored : (t : Turn ms ts) → length ms ≤ t.i → t.ys ≡ filled ts 0 ms
@@ -227,10 +227,10 @@ module _ {M : Type 1} {𝓤 : Ura M} (𝓛 : Logic 𝓤) (mem : Memory → SProp
         rewrite ! 6 (λ (p : ℕ). ‵ (fat full_share ty_ptr l₈ 0 (vptr b p))) (sym (place_is size o i)) refl $
         move ! (2 ∷ []) $ fsplit ! $ move ! (1 ∷ []) $ fsplit ! $ move ! (1 ∷ 3 ∷ []) $
         looks_slice ! tt T.the_row (Is T.the_row) (shows 𝓛 T.the_row) (LL.vals T.the_type T'.the_laws) (LL.tells T.the_type T'.the_laws) (LL.copy T.the_type T'.the_copy 𝓛) ms b o (λ q''.
-        elem_out ! T.the_row (Is T.the_row) (shows 𝓛 T.the_row) (LL.vals T.the_type T'.the_laws) (LL.tells T.the_type T'.the_laws) q'' ms i noMarker b o within (λ p.
+        elem_out ! T.the_row (Is T.the_row) (shows 𝓛 T.the_row) (LL.vals T.the_type T'.the_laws) (LL.tells T.the_type T'.the_laws) q'' ms i no_marker b o within (λ p.
         -- [ms[i]; what it owns; the others; what shuts; the fractured borrow; res; ms's fact; κ'; the table; _9; …]
         assigns ! (of_opd ! (load ! (from ! (hop ! (look ! 11 refl) (stop !))) (look_raw ! 0 refl))) (from ! (stop !)) (init ! 9 refl ((LL.lawful T.the_type T'.the_laws 𝓛).typed m _ p).0) $
-        elem_back ! T.the_row q'' ms i noMarker (mach m ∷ []) b o within $ shuts_slice ! tt T.the_row q'' ms b o $
+        elem_back ! T.the_row q'' ms i no_marker (mach m ∷ []) b o within $ shuts_slice ! tt T.the_row q'' ms b o $
         move ! (2 ∷ 1 ∷ []) $ fjoin ! $ move ! (2 ∷ 0 ∷ []) $ fjoin ! $
         -- [ms; κ; κ'; the table; _9; …]: the table is lent again for a lifetime ν of the call
         lft_new ! tt (λ ν. move ! (4 ∷ 3 ∷ []) $
@@ -260,7 +260,7 @@ module _ {M : Type 1} {𝓤 : Ura M} (𝓛 : Logic 𝓤) (mem : Memory → SProp
         ys = t.ys
 
         m : Marker
-        m = get_or ms i noMarker
+        m = get_or ms i no_marker
 
         within : i < length ms
         within = ltb-true _ _ e

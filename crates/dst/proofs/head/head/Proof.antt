@@ -1,16 +1,16 @@
 -- `head::head` meets its contract. Assumes nothing.
-use Rattle.dst.specs.Head.{dataSize, head}
-use Rattle.dst.specs.Sized.{headSized}
-use Rattle.dst.proofs.SaturateLaws.{moved-capped}
+use Rattle.dst.specs.Head.{data_size, head}
+use Rattle.dst.specs.Sized.{head_sized}
+use Rattle.dst.proofs.SaturateLaws.{moved_capped}
 use borrow.Author.Rules.{rules}
 use Rattle.dst.proofs.head.head.Statement.{statement}
 use Rattle.dst.proofs.head.head.Tie as tie
 
 returns : tie.Need-returns
-unfolding head headSized dataSize
+unfolding head head_sized data_size
 returns c =
     let made = c.before.before in
-    rw (made.before.units.ensures, moved-capped) at made.head-sized.ensures
+    rw (made.before.units.ensures, moved_capped) at made.head-sized.ensures
 
 pub head_spec : {M : Type 1} → statement M
 head_spec =

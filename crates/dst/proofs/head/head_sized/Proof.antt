@@ -2,13 +2,13 @@
 use borrow.Author.Rules.{rules}
 use Rattle.chunk.proofs.AppendLaws.{◌then◌}
 use Rattle.dst.specs.Head.{frte, rate}
-use Rattle.dst.specs.Sized.{headSized}
+use Rattle.dst.specs.Sized.{head_sized}
 use Rattle.dst.proofs.LowLaws.{be-mod}
 use Rattle.dst.proofs.head.head_sized.Statement.{statement}
 use Rattle.dst.proofs.head.head_sized.Tie as tie
 
 returns : tie.Need-returns
-unfolding headSized frte rate
+unfolding head_sized frte rate
 returns c =
     let c₂ = c.before.before in
     let c₁ = c₂.before.before.before.before in

@@ -1,11 +1,11 @@
 -- `unit::data_size` meets its contract. Assumes nothing.
 use native.Mathlib.Omega.{arith}
-use Rattle.dst.specs.Head.{dataSize}
+use Rattle.dst.specs.Head.{data_size}
 use Rattle.dst.proofs.unit.data_size.Statement.{statement}
 use Rattle.dst.proofs.unit.data_size.Tie as tie
 
 returns : tie.Need-returns
-unfolding dataSize
+unfolding data_size
 returns c = omega (arith, c.with-frte.ensures, c.before.units.ensures)
 
 pub data-size-spec : {M : Type 1} → statement M

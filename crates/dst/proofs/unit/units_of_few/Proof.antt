@@ -6,9 +6,9 @@ use native.Mathlib.Numerals.{add-one}
 use native.Mathlib.Omega.{arith}
 use lib.ListN.{length, get_or, length-map}
 use borrow.Author.Rules.{rules}
-use Rattle.dst.specs.Unit.{unitSize, sizes}
+use Rattle.dst.specs.Unit.{unit_size, sizes}
 use Rattle.dst.specs.Start.{start}
-use Rattle.dst.proofs.StartLaws.{start-zero, start-all}
+use Rattle.dst.proofs.StartLaws.{start-zero, start_all}
 use Rattle.dst.proofs.UnitLaws.{start-next, unit-most}
 use Rattle.dst.proofs.unit.units_of_few.Statement.{statement}
 use Rattle.dst.proofs.unit.units_of_few.Tie as tie
@@ -48,7 +48,7 @@ returns c =
     let s = turn.before.before in
     let ls = s.args.lengths.now in
     turn.loop.invariant.2
-    ∙ start-all (sizes s.args.crc ls) turn.loop.i (omega (arith, c.loop-test.false, length-map ls (unitSize s.args.crc)))
+    ∙ start_all (sizes s.args.crc ls) turn.loop.i (omega (arith, c.loop-test.false, length-map ls (unit_size s.args.crc)))
 
 pub units-of-few-spec : {M : Type 1} → statement M
 units-of-few-spec =

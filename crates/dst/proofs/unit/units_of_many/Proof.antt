@@ -5,9 +5,9 @@ use native.Mathlib.Numerals.{add-one}
 use native.Mathlib.Omega.{arith}
 use lib.ListN.{length, length-map}
 use borrow.Author.Rules.{rules}
-use Rattle.dst.specs.Unit.{unitSize, sizes}
+use Rattle.dst.specs.Unit.{unit_size, sizes}
 use Rattle.dst.specs.Start.{start}
-use Rattle.dst.proofs.StartLaws.{start-zero, start-all}
+use Rattle.dst.proofs.StartLaws.{start-zero, start_all}
 use Rattle.dst.proofs.UnitLaws.{start-next}
 use Rattle.dst.proofs.unit.units_of_many.Statement.{statement}
 use Rattle.dst.proofs.unit.units_of_many.Tie as tie
@@ -35,7 +35,7 @@ returns c =
     let turn = c.before in
     let s = turn.before.before in
     let ls = s.args.lengths.now in
-    let all = start-all (sizes s.args.crc ls) turn.loop.i (omega (arith, c.loop-test.false, length-map ls (unitSize s.args.crc))) in
+    let all = start_all (sizes s.args.crc ls) turn.loop.i (omega (arith, c.loop-test.false, length-map ls (unit_size s.args.crc))) in
     rw all at turn.loop.invariant.1
 
 pub units-of-many-spec : {M : Type 1} → statement M

@@ -9,7 +9,7 @@ use Rattle.chunk.specs.Append.{moved}
 use Rattle.chunk.specs.Number.{be}
 use Rattle.chunk.proofs.SizeLastLaws.{size-last}
 use Rattle.dst_index.specs.Index.{dsti}
-use Rattle.dst_index.proofs.IndexLaws.{length-index, index-unpadded}
+use Rattle.dst_index.proofs.IndexLaws.{length-index, index_unpadded}
 use Rattle.dst_index.proofs.index.dsti.Statement.{statement}
 use Rattle.dst_index.proofs.index.dsti.Tie as tie
 
@@ -25,7 +25,7 @@ returns c =
     let ls = start.args.lengths.now in
     let size : inside.dsti-data.result.at ≡ moved 0 (12 * length ls) = rw (new.new.ensures, length-index) at inside.dsti-data.ensures.place in
     rw (← size)
-    (index-unpadded (ascii "DSTI" ++ be 8 inside.dsti-data.result.at) start.args.crc _ ls size
+    (index_unpadded (ascii "DSTI" ++ be 8 inside.dsti-data.result.at) start.args.crc _ ls size
     (size-last (ascii "DSTI") name.name.ensures from.data-start.ensures new.new.ensures inside.dsti-data.ensures close.close.ensures))
 
 pub dsti-spec : {M : Type 1} → statement M

@@ -6,13 +6,13 @@ use native.Mathlib.Omega.{arith}
 use lib.ListN.{length}
 use borrow.Author.Tests.{not-true, not-false}
 use borrow.Author.Rules.{rules}
-use Rattle.sound_reads.specs.Lent.{isLent}
-use Rattle.sound_reads.specs.Positions.{positionsFor, between}
+use Rattle.sound_reads.specs.Lent.{is_lent}
+use Rattle.sound_reads.specs.Positions.{positions_for, between}
 use Rattle.dst.specs.Unit.{sizes}
-use Rattle.dst.specs.Frame.{plainBytes}
+use Rattle.dst.specs.Frame.{plain_bytes}
 use Rattle.dst_reads.proofs.FillLaws.{needed-known, filled-lent}
-use Rattle.sound_reads.proofs.LentLaws.{lent-lengths, mid-slice}
-use Rattle.sound_reads.proofs.PlaceLaws.{inside, byte-at}
+use Rattle.sound_reads.proofs.LentLaws.{lent-lengths, mid_slice}
+use Rattle.sound_reads.proofs.PlaceLaws.{inside, byte_at_lem}
 use Rattle.dst_reads.proofs.dst_data.fill.Statement.{statement}
 use Rattle.dst_reads.proofs.dst_data.fill.Tie as tie
 
@@ -23,10 +23,10 @@ touched-requires c κs =
 
 -- the positions that were found are those that the read needs
 wanted : (c : tie.After-touched) → let a = c.before.before.before.before.before.before.before.before.args in
-    c.touched.result ≡ positionsFor (sizes a.crc a.lengths.now) a.w.skip (length a.out.now - a.w.at)
+    c.touched.result ≡ positions_for (sizes a.crc a.lengths.now) a.w.skip (length a.out.now - a.w.at)
 wanted c =
     let a = c.before.before.before.before.before.before.before.before.args in
-    rw (← byte-at (sizes a.crc a.lengths.now) a.w.skip, ← c.before.before.locate.ensures, ← c.before.room.ensures) c.touched.ensures
+    rw (← byte_at_lem (sizes a.crc a.lengths.now) a.w.skip, ← c.before.before.locate.ensures, ← c.before.room.ensures) c.touched.ensures
 
 known : (c : tie.After-touched) → let a = c.before.before.before.before.before.before.before.before.args in
     (c.touched.result.first ≤ c.touched.result.end) × (c.touched.result.end ≤ length a.lengths.now)
@@ -36,11 +36,11 @@ known c =
 
 -- the test is of what those positions have
 lent : (c : tie.After-is-lent) → let a = c.before.before.before.before.before.before.before.before.before.before.before.args in
-    c.is-lent.result ≡ isLent (plainBytes a.crc a.channels) (between (positionsFor (sizes a.crc a.lengths.now) a.w.skip (length a.out.now - a.w.at)) a.lengths.now) a.lent.now a.frames.now a.contents.now
+    c.is-lent.result ≡ is_lent (plain_bytes a.crc a.channels) (between (positions_for (sizes a.crc a.lengths.now) a.w.skip (length a.out.now - a.w.at)) a.lengths.now) a.lent.now a.frames.now a.contents.now
 lent c =
     let a = c.before.before.before.before.before.before.before.before.before.before.before.args in
     let t = c.before.before.before in
-    rw (← wanted t, ← c.before.before.plain-bytes.ensures, ← mid-slice t.touched.result.first t.touched.result.end a.lengths.now) c.is-lent.ensures
+    rw (← wanted t, ← c.before.before.plain-bytes.ensures, ← mid_slice t.touched.result.first t.touched.result.end a.lengths.now) c.is-lent.ensures
 
 mul-is-lent : tie.Need-overflow-mul-is-lent
 mul-is-lent c =
@@ -63,14 +63,14 @@ returns c =
     rw (sym l ∙ not-true _ c.if1.true) (record { answer = refl; buffer = refl })
 
 is-given : (c : tie.Else1) → let a = c.before.before.before.before.before.before.before.before.before.before.before.before.args in
-    isLent (plainBytes a.crc a.channels) (between (positionsFor (sizes a.crc a.lengths.now) a.w.skip (length a.out.now - a.w.at)) a.lengths.now) a.lent.now a.frames.now a.contents.now ≡ true
+    is_lent (plain_bytes a.crc a.channels) (between (positions_for (sizes a.crc a.lengths.now) a.w.skip (length a.out.now - a.w.at)) a.lengths.now) a.lent.now a.frames.now a.contents.now ≡ true
 is-given c = sym (lent c.before) ∙ not-false c.before.is-lent.result c.if1.false
 
 units-requires : tie.Need-units-requires
 units-requires c κs =
     let e = c.before in
     let a = e.before.before.before.before.before.before.before.before.before.before.before.before.args in
-    let l = lent-lengths (plainBytes a.crc a.channels) _ a.lent.now a.frames.now a.contents.now (is-given e) in
+    let l = lent-lengths (plain_bytes a.crc a.channels) _ a.lent.now a.frames.now a.contents.now (is-given e) in
     (rw l.0 l.1.0, rw (l.0, e.before.before.before.plain-bytes.ensures) l.1.1)
 
 returns-2 : tie.Need-returns-2
@@ -78,7 +78,7 @@ returns-2 c =
     let e = c.before.before.before.before.before in
     let a = e.before.before.before.before.before.before.before.before.before.before.before.before.args in
     rw (is-given e, c.filled.ensures, e.before.before.before.before.before.before.locate.ensures)
-    (filled-lent a.crc a.lengths.now (plainBytes a.crc a.channels) a.lent.now a.frames.now a.contents.now a.w a.out.now (is-given e) {v = c.before.before.before.units.result}
+    (filled-lent a.crc a.lengths.now (plain_bytes a.crc a.channels) a.lent.now a.frames.now a.contents.now a.w a.out.now (is-given e) {v = c.before.before.before.units.result}
     (rw (← e.before.before.before.plain-bytes.ensures, ← e.before.before.before.before.before.before.locate.ensures) c.before.before.before.units.ensures))
 
 pub fill_spec : {M : Type 1} → statement M

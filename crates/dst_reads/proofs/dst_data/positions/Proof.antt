@@ -1,6 +1,6 @@
 -- `dst_data::positions` meets its contract. Assumes nothing.
 use Rattle.dst.specs.Unit.{sizes}
-use Rattle.sound_reads.proofs.PlaceLaws.{inside, byte-at}
+use Rattle.sound_reads.proofs.PlaceLaws.{inside, byte_at_lem}
 use Rattle.dst_reads.proofs.dst_data.positions.Statement.{statement}
 use Rattle.dst_reads.proofs.dst_data.positions.Tie as tie
 
@@ -10,7 +10,7 @@ touched-requires c κs = rw c.locate.ensures (inside (sizes c.before.before.args
 returns : tie.Need-returns
 returns c =
     let a = c.before.before.before.args in
-    rw (← byte-at (sizes a.crc a.lengths.now) a.from, ← c.before.locate.ensures) c.touched.ensures
+    rw (← byte_at_lem (sizes a.crc a.lengths.now) a.from, ← c.before.locate.ensures) c.touched.ensures
 
 pub positions-spec : {M : Type 1} → statement M
 positions-spec =

@@ -8,7 +8,7 @@ use native.Mathlib.Nat.{mul-suc, mul-zero}
 use lib.Seq.{take_all}
 use lib.ListN.{length, take, get_or}
 use borrow.Author.Rules.{rules}
-use Rattle.sound_reads.specs.Lent.{lentFrames}
+use Rattle.sound_reads.specs.Lent.{lent_frames}
 use Rattle.window.specs.Window.{Wrote}
 use Rattle.dst.specs.Start.{sum}
 use Rattle.dst.specs.Unit.{sound}
@@ -21,13 +21,13 @@ use Rattle.dst_reads.proofs.dst_data.units.Tie as tie
 abbrev invariant-loop : tie.invariant-loop
 invariant-loop out₀ crc lengths frames n contents v₀ k₀ b₀ c₀ out v k b c =
     (k ≤ length lengths) × (b ≡ sum (take k lengths)) × (c ≡ n * k) × (length out ≡ length out₀)
-    × Wrote (sound crc (lentFrames n (take k lengths) frames contents)) v₀ out₀ out v
+    × Wrote (sound crc (lent_frames n (take k lengths) frames contents)) v₀ out₀ out v
 
 abbrev decreases-loop : tie.decreases-loop
 decreases-loop out₀ crc lengths frames n contents v₀ k₀ b₀ c₀ out v k b c = length lengths - k
 
 loop-holds : tie.Need-loop-init invariant-loop decreases-loop
-unfolding sound lentFrames flat_map sum
+unfolding sound lent_frames flat_map sum
 loop-holds c = (omega arith, refl, sym (mul-zero _), refl, nothing _ _)
 
 -- in a turn, the frame's bytes and its content lie within those that are lent

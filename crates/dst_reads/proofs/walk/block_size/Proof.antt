@@ -7,7 +7,7 @@ use native.Mathlib.Omega.{arith}
 use lib.ListN.{get_or}
 use borrow.Author.Rules.{rules}
 use Rattle.dst.specs.Start.{start}
-use Rattle.dst.specs.Unit.{unitSize, sizes}
+use Rattle.dst.specs.Unit.{unit_size, sizes}
 use Rattle.dst.proofs.UnitLaws.{unit-most}
 use Rattle.dst_reads.proofs.WalkLaws.{block_on}
 use Rattle.dst_reads.proofs.walk.block_size.Statement.{statement}
@@ -41,7 +41,7 @@ loop-again : tie.Need-loop-preserved invariant-loop decreases-loop
 loop-again c =
     let l = c.before.before.before.loop in
     let a = c.before.before.before.before.before.args in
-    let next = block_on (unitSize a.crc) a.lengths.now a.k l.i l.all (omega arith) l.invariant.2 in
+    let next = block_on (unit_size a.crc) a.lengths.now a.k l.i l.all (omega arith) l.invariant.2 in
     (omega arith, omega (arith, unit-fits c), rw c.unit_size.ensures next)
 
 returns : tie.Need-returns invariant-loop decreases-loop

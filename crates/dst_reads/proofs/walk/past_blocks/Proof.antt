@@ -5,8 +5,8 @@ use native.Mathlib.Omega.{arith}
 use lib.ListN.{length}
 use borrow.Author.Rules.{rules}
 use Rattle.dst.specs.Start.{start}
-use Rattle.dst.specs.Unit.{unitSize, sizes}
-use Rattle.dst_reads.proofs.WalkLaws.{walk-starts}
+use Rattle.dst.specs.Unit.{unit_size, sizes}
+use Rattle.dst_reads.proofs.WalkLaws.{walk_starts}
 use Rattle.dst_reads.proofs.walk.past_blocks.Statement.{statement}
 use Rattle.dst_reads.proofs.walk.past_blocks.Tie as tie
 
@@ -17,7 +17,7 @@ abbrev decreases-loop : tie.decreases-loop
 decreases-loop crc lengths place k₀ within₀ k within = length lengths - k
 
 loop-holds : tie.Need-loop-init invariant-loop decreases-loop
-loop-holds c = (omega arith, walk-starts (unitSize c.before.args.crc) c.before.args.lengths.now c.before.args.place)
+loop-holds c = (omega arith, walk_starts (unit_size c.before.args.crc) c.before.args.lengths.now c.before.args.place)
 
 returns : tie.Need-returns invariant-loop decreases-loop
 returns c = c.before.before.before.loop.invariant

@@ -2,14 +2,14 @@
 use mathlib.Core.Path.{◌≡◌}
 use Prim.Native.Nat.{◌≤◌, ◌-◌}
 use borrow.Author.Rules.{rules}
-use Rattle.refusal.specs.Below.{firstRefused}
-use Rattle.faults.specs.Caller.{nameFault, callerName, callerFaults}
+use Rattle.refusal.specs.Below.{first_refused}
+use Rattle.faults.specs.Caller.{name_fault, caller_name, caller_faults}
 use Rattle.refusal.proofs.BelowLaws.{below_none, below_more, below_all}
 use Rattle.faults.proofs.caller.caller_faults.Statement.{statement}
 use Rattle.faults.proofs.caller.caller_faults.Tie as tie
 
 abbrev invariant-loop : tie.invariant-loop
-invariant-loop callers n v₀ k₀ v k = (k ≤ n) × (v ≡ firstRefused (λ i. nameFault (callerName callers i)) k)
+invariant-loop callers n v₀ k₀ v k = (k ≤ n) × (v ≡ first_refused (λ i. name_fault (caller_name callers i)) k)
 
 abbrev decreases-loop : tie.decreases-loop
 decreases-loop callers n v₀ k₀ v k = n - k
@@ -21,7 +21,7 @@ loop-again c =
     (search rules, below_more _ _ _ _ named.before.before.before.loop.invariant.1 fault c.or_else.ensures)
 
 returns : tie.Need-returns invariant-loop decreases-loop
-unfolding callerFaults
+unfolding caller_faults
 returns c =
     rw (← c.before.before.count.ensures) (below_all _ _ _ _ _ c.before.loop.invariant.1 c.before.loop.invariant.0 c.loop-test.false)
 

@@ -2,8 +2,8 @@
 use mathlib.Core.Path.{◌≡◌, ap}
 use lib.ListN.{length}
 use borrow.Author.Rules.{rules}
-use Rattle.faults.specs.Caller.{isNoName}
-use Rattle.refusal.proofs.Listed.{by-elements}
+use Rattle.faults.specs.Caller.{is_no_name}
+use Rattle.refusal.proofs.Listed.{by_elements}
 use Rattle.faults.proofs.caller.is_no_name.Statement.{statement}
 use Rattle.faults.proofs.caller.is_no_name.Tie as tie
 
@@ -11,7 +11,7 @@ returns : tie.Need-returns
 returns c =
     let start = c.before.before.before.before.before.before.before in
     let all : length start.args.t1 ≡ 4 = start.well-formed.0.1.0.1 in
-    cc (ap isNoName (by-elements 0 4 start.args.t1 all))
+    cc (ap is_no_name (by_elements 0 4 start.args.t1 all))
 
 pub is-no-name-spec : {M : Type 1} → statement M
 is-no-name-spec =

@@ -6,7 +6,7 @@ use native.Mathlib.Omega.{arith}
 use lib.ListN.{length, get_or}
 use Rattle.texts.specs.Text.{passes}
 use Rattle.refusal.specs.Below.{any}
-use Rattle.faults.specs.TextBytes.{hasNoText}
+use Rattle.faults.specs.TextBytes.{has_no_text}
 use Rattle.refusal.proofs.BelowLaws.{below_none, below_more, below_all}
 use Rattle.faults.proofs.text_bytes.has_no_text.Statement.{statement}
 use Rattle.faults.proofs.text_bytes.has_no_text.Tie as tie
@@ -21,7 +21,7 @@ loop-again : tie.Need-loop-preserved invariant-loop decreases-loop
 loop-again c = (omega arith, below_more _ _ _ _ c.before.before.before.loop.invariant.1 (ap not c.passes.ensures) refl)
 
 returns : tie.Need-returns invariant-loop decreases-loop
-unfolding hasNoText
+unfolding has_no_text
 returns c = below_all _ _ _ _ _ c.before.loop.invariant.1 c.before.loop.invariant.0 c.loop-test.false
 
 pub has-no-text-spec : {M : Type 1} → statement M

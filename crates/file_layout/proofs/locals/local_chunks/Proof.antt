@@ -11,25 +11,25 @@ use Rattle.chunk.specs.Append.{Appended}
 use Rattle.chunk_names.specs.declared.LocalChunk.TheVariants.{Property}
 use Rattle.chunk.proofs.AppendLaws.{none}
 use Rattle.file_tree.specs.Parts.{parts_of}
-use Rattle.file_tree.specs.Sides.{localsBytes}
-use Rattle.file_tree.specs.Steps.{hasSound, side}
+use Rattle.file_tree.specs.Sides.{locals_bytes}
+use Rattle.file_tree.specs.Steps.{has_sound, side}
 use Rattle.file_tree.proofs.SideLaws.{passed-next}
 use Rattle.file_layout.proofs.WriteLaws.{side-none, side_then}
 use Rattle.file_layout.proofs.locals.local_chunks.Statement.{statement}
 use Rattle.file_layout.proofs.locals.local_chunks.Tie as tie
 
 abbrev invariant-loop : tie.invariant-loop
-invariant-loop out₀ which count base area options property-order info-order pool raw tracks markers comments lengths order c₀ n passed₀ i₀ out c passed i =
-    (i ≤ n) × (passed ≡ hasSound (take i order))
+invariant-loop out₀ which count base area options property_order_lem info_order_lem pool raw tracks markers comments lengths order c₀ n passed₀ i₀ out c passed i =
+    (i ≤ n) × (passed ≡ has_sound (take i order))
     × ((length out ≡ length out₀)
     × Appended out₀ c₀.at
-    (localsBytes (parts_of area options property-order info-order pool raw tracks markers comments lengths) base (side which (take i order))) out c.at)
+    (locals_bytes (parts_of area options property_order_lem info_order_lem pool raw tracks markers comments lengths) base (side which (take i order))) out c.at)
 
 abbrev decreases-loop : tie.decreases-loop
-decreases-loop out₀ which count base area options property-order info-order pool raw tracks markers comments lengths order c₀ n passed₀ i₀ out c passed i = n - i
+decreases-loop out₀ which count base area options property_order_lem info_order_lem pool raw tracks markers comments lengths order c₀ n passed₀ i₀ out c passed i = n - i
 
 loop-holds : tie.Need-loop-init invariant-loop decreases-loop
-unfolding hasSound flat_map
+unfolding has_sound flat_map
 loop-holds c =
     let which = c.before.before.before.before.before.before.before.before.args.behind in
     (search rules, search rules, (search rules, rw (side-none which) (none (search rules) (search rules))))

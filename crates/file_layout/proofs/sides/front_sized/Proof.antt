@@ -2,12 +2,12 @@
 use borrow.Author.Rules.{rules}
 use Rattle.chunk.specs.Number.{be}
 use Rattle.chunk.proofs.AppendLaws.{◌then◌}
-use Rattle.file_tree.specs.Sized.{frontSized}
+use Rattle.file_tree.specs.Sized.{front_sized}
 use Rattle.file_layout.proofs.sides.front_sized.Statement.{statement}
 use Rattle.file_layout.proofs.sides.front_sized.Tie as tie
 
 returns : tie.Need-returns
-unfolding frontSized be
+unfolding front_sized be
 returns c =
     let c₄ = c.before.before in
     let c₃ = c₄.before.before.before.before in

@@ -1,16 +1,16 @@
 -- `query::query` meets its contract. Assumes nothing.
 use borrow.Author.Rules.{rules}
 use Rattle.read_rules.specs.Needed.{needed}
-use Rattle.file_query.specs.Query.{queryOf}
+use Rattle.file_query.specs.Query.{query_of}
 use Rattle.file_query.proofs.query.query.Statement.{statement}
 use Rattle.file_query.proofs.query.query.Tie as tie
 
 returns : tie.Need-returns
-unfolding queryOf
+unfolding query_of
 returns c = rw (← c.before.before.before.fault.ensures, c.before.verdict.given.1)
 
 returns-2 : tie.Need-returns-2
-unfolding queryOf needed
+unfolding query_of needed
 returns-2 c =
     let less = c.before in
     let told = less.before.before.before in

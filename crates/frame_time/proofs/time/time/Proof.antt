@@ -1,11 +1,11 @@
 -- `time::time` meets its contract. Assumes nothing.
 use borrow.Author.Rules.{rules}
-use Rattle.frame_time.specs.Time.{timeOf}
+use Rattle.frame_time.specs.Time.{time_of}
 use Rattle.frame_time.proofs.time.time.Statement.{statement}
 use Rattle.frame_time.proofs.time.time.Tie as tie
 
 returns : tie.Need-returns
-unfolding timeOf
+unfolding time_of
 returns c = search rules
 
 pub time-spec : {M : Type 1} → statement M

@@ -1,12 +1,12 @@
 -- `time::time_bytes` meets its contract. Assumes nothing.
 use borrow.Author.Rules.{rules}
-use Rattle.frame_time.specs.Time.{timeBytes}
+use Rattle.frame_time.specs.Time.{time_bytes}
 use Rattle.chunk.proofs.AppendLaws.{◌then◌}
 use Rattle.frame_time.proofs.time.time_bytes.Statement.{statement}
 use Rattle.frame_time.proofs.time.time_bytes.Tie as tie
 
 returns : tie.Need-returns
-unfolding timeBytes
+unfolding time_bytes
 returns c =
     let c₄ = c.before.before in
     let c₃ = c₄.before.before.before.before in

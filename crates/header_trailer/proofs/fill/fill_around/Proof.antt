@@ -3,18 +3,18 @@ use Prim.Native.Nat.{◌*◌, ◌^◌, ◌<◌}
 use native.Mathlib.Nat.{mul_comm}
 use native.Mathlib.Omega.{arith}
 use Rattle.chunk.proofs.AppendLaws.{◌then◌}
-use Rattle.dst.specs.Frame.{frameBytes}
+use Rattle.dst.specs.Frame.{frame_bytes}
 use Rattle.dst.proofs.FrameLaws.{sound-short}
-use Rattle.build_options.specs.Area.{areaPositions}
+use Rattle.build_options.specs.Area.{area_positions}
 use borrow.Author.Rules.{rules}
 use Rattle.header_trailer.proofs.FillLaws.{filled}
 use Rattle.header_trailer.proofs.fill.fill_around.Statement.{statement}
 use Rattle.header_trailer.proofs.fill.fill_around.Tie as tie
 
 -- DSD sound fits a u64
-short : (s : tie.Start) → areaPositions s.args.area * frameBytes s.args.area.channels < 2 ^ 64
+short : (s : tie.Start) → area_positions s.args.area * frame_bytes s.args.area.channels < 2 ^ 64
 short s =
-    rw mul_comm (omega (arith, sound-short s.args.area.channels (areaPositions s.args.area) (search rules) (search rules)))
+    rw mul_comm (omega (arith, sound-short s.args.area.channels (area_positions s.args.area) (search rules) (search rules)))
 
 returns : tie.Need-returns
 returns c =

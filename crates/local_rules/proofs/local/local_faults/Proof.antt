@@ -6,7 +6,7 @@ use native.Mathlib.Omega.{arith}
 use lib.ListN.{length, take}
 use lib.Seq.{length-take-le}
 use borrow.Author.Rules.{rules}
-use Rattle.local_rules.specs.Local.{localFaults}
+use Rattle.local_rules.specs.Local.{local_faults}
 use Rattle.local_rules.proofs.local.local_faults.Statement.{statement}
 use Rattle.local_rules.proofs.local.local_faults.Tie as tie
 
@@ -27,7 +27,7 @@ slice-aggregate-sound-before-prop c =
     counted _ _ c.before.before.before.before.before.at_most.ensures c.before.before.before.before.before.before.local-ranks.type-inv.1.0.1
 
 returns : tie.Need-returns
-unfolding localFaults
+unfolding local_faults
 returns c =
     let c₄ = c.before.before.before.before in
     let c₃ = c₄.before in

@@ -5,12 +5,12 @@ use lib.ListN.{length}
 use borrow.Author.Rules.{rules}
 use Rattle.refusal.specs.Below.{any}
 use Rattle.refusal.proofs.BelowLaws.{below_none, below_more, below_all}
-use Rattle.local_rules.specs.Local.{soundFirst}
+use Rattle.local_rules.specs.Local.{sound_first}
 use Rattle.local_rules.proofs.local.sound_before_prop.Statement.{statement}
 use Rattle.local_rules.proofs.local.sound_before_prop.Tie as tie
 
 abbrev invariant-loop : tie.invariant-loop
-invariant-loop ranks found₀ k₀ found k = (k ≤ length ranks) × (found ≡ any (soundFirst ranks) k)
+invariant-loop ranks found₀ k₀ found k = (k ≤ length ranks) × (found ≡ any (sound_first ranks) k)
 
 abbrev decreases-loop : tie.decreases-loop
 decreases-loop ranks found₀ k₀ found k = length ranks - k

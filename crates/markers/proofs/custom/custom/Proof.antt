@@ -6,10 +6,10 @@ use lib.ListN.{length, take, drop}
 use Rattle.chunk.specs.Append.{Appended}
 use Rattle.tree.specs.Tree.{bytes, each}
 use Rattle.chunk.proofs.AppendLaws.{◌then◌, none}
-use Rattle.chunk.proofs.RowsLaws.{row_words, mapped_next, mapped-all}
+use Rattle.chunk.proofs.RowsLaws.{row_words, mapped_next, mapped_all}
 use Rattle.tree.proofs.TreeLaws.{bytes-each-append, bytes-each-one}
 use Rattle.markers.specs.Marker.{mark}
-use Rattle.markers.specs.Custom.{customOf, customs}
+use Rattle.markers.specs.Custom.{custom_of, customs}
 use Rattle.tracks.proofs.RowLaws.{row-whole}
 use Rattle.markers.proofs.custom.custom.Statement.{statement}
 use Rattle.markers.proofs.custom.custom.Tie as tie
@@ -43,17 +43,17 @@ loop-again c =
     let words = start.args.rows.now in
     let i = turn.loop.i in
     let f = mark start.args.pool.now start.args.raw.now start.args.how in
-    let one = rw (row.custom-of.ensures, row_words 4 i words, ← bytes-each-one f (customOf (take 4 (drop (i * 4) words)))) at c₁.mark.ensures in (
+    let one = rw (row.custom-of.ensures, row_words 4 i words, ← bytes-each-one f (custom_of (take 4 (drop (i * 4) words)))) at c₁.mark.ensures in (
       search rules,
       search rules,
-      rw (mapped_next customOf 4 words i (search rules), bytes-each-append) (turn.loop.invariant.2 then one),
+      rw (mapped_next custom_of 4 words i (search rules), bytes-each-append) (turn.loop.invariant.2 then one),
     )
 
 returns : tie.Need-returns invariant-loop decreases-loop
 unfolding customs
 returns c =
     let start = c.before.before.before.before.before.before in
-    rw (mapped-all customOf 4 start.args.rows.now c.before.loop.i (search rules)) at c.before.loop.invariant.2
+    rw (mapped_all custom_of 4 start.args.rows.now c.before.loop.i (search rules)) at c.before.loop.invariant.2
 
 pub custom-spec : {M : Type 1} → statement M
 custom-spec =

@@ -5,13 +5,13 @@ use Rattle.chunk_names.specs.Name.{ascii}
 use Rattle.chunk.specs.Chunk.{counts}
 use Rattle.chunk.proofs.SizeLastLaws.{chunk-size-last}
 use Rattle.tree.proofs.TreeLaws.{bytes-leaf}
-use Rattle.markers.specs.Marker.{mark, markData, markerText}
-use Rattle.markers.proofs.MarkerLaws.{length-markData}
+use Rattle.markers.specs.Marker.{mark, mark_data, marker_text}
+use Rattle.markers.proofs.MarkerLaws.{length-mark_data}
 use Rattle.markers.proofs.marker.mark.Statement.{statement}
 use Rattle.markers.proofs.marker.mark.Tie as tie
 
 returns : tie.Need-returns
-unfolding mark markData counts
+unfolding mark mark_data counts
 returns c =
     let close = c.before.before in
     let inside = close.before.before.before.before in
@@ -23,9 +23,9 @@ returns c =
     let count = counted.marker-text-count.ensures in
     let how = start.args.how in
     let m = start.args.m in
-    let text = markerText start.args.pool.now start.args.raw.now how.text.rule m.text in
+    let text = marker_text start.args.pool.now start.args.raw.now how.text.rule m.text in
     rw (bytes-leaf)
-    (chunk-size-last (ascii "MARK") (omega (arith, count, length-markData how m text))
+    (chunk-size-last (ascii "MARK") (omega (arith, count, length-mark_data how m text))
     name.name.ensures from.data-start.ensures new.new.ensures (rw count at inside.mark-data.ensures) close.close.ensures)
 
 pub mark_spec : {M : Type 1} → statement M

@@ -1,12 +1,12 @@
 -- `marker::mark_head` meets its contract. Assumes nothing.
-use Rattle.markers.specs.Marker.{markHead}
+use Rattle.markers.specs.Marker.{mark_head}
 use Rattle.chunk.proofs.AppendLaws.{◌then◌}
 use borrow.Author.Rules.{rules}
 use Rattle.markers.proofs.marker.mark_head.Statement.{statement}
 use Rattle.markers.proofs.marker.mark_head.Tie as tie
 
 returns : tie.Need-returns
-unfolding markHead
+unfolding mark_head
 returns c =
     let c₅ = c.before.before in
     let c₄ = c₅.before.before.before.before.before in

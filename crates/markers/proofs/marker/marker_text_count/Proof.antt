@@ -1,19 +1,19 @@
 -- `marker::marker_text_count` meets its contract, for each origin of a text. Assumes nothing.
-use Rattle.markers.specs.Marker.{markerText}
+use Rattle.markers.specs.Marker.{marker_text}
 use borrow.Author.Rules.{rules}
 use Rattle.markers.proofs.marker.marker_text_count.Statement.{statement}
 use Rattle.markers.proofs.marker.marker_text_count.Tie as tie
 
 returns : tie.Need-returns
-unfolding markerText
+unfolding marker_text
 returns c = rw c.enum_told.given.1
 
 returns-2 : tie.Need-returns-2
-unfolding markerText
+unfolding marker_text
 returns-2 c = rw c.before.before.text.given.1 c.pool-count.ensures
 
 returns-3 : tie.Need-returns-3
-unfolding markerText
+unfolding marker_text
 returns-3 c = rw c.before.before.text2.given.1 c.text-count.ensures
 
 pub marker-text-count-spec : {M : Type 1} → statement M

@@ -13,18 +13,18 @@ use Rattle.chunk.proofs.AppendLaws.{none}
 use Rattle.chunk.proofs.SizeLastLaws.{chunk-size-last}
 use Rattle.tree.specs.Tree.{bytes}
 use Rattle.tree.proofs.TreeLaws.{bytes-stop, bytes-node}
-use Rattle.master_info.specs.Diin.{infoChunks, hasDiin, diin}
+use Rattle.master_info.specs.Diin.{info_chunks, has_diin, diin}
 use Rattle.master_info.proofs.DiinLaws.{size_below, told-by-size}
 use Rattle.master_info.proofs.diin.diin.Statement.{statement}
 use Rattle.master_info.proofs.diin.diin.Tie as tie
 
 returns : tie.Need-returns
-unfolding diin hasDiin
+unfolding diin has_diin
 returns c =
     let measured = c.before.before.before.before in
     let start = measured.before.before.before.before.before.before.before.before in
     let info = start.args.info in
-    let inside = bytes (infoChunks start.args.pool.now start.args.raw.now start.args.tracks.now start.args.custom.now info start.args.order) in
+    let inside = bytes (info_chunks start.args.pool.now start.args.raw.now start.args.tracks.now start.args.custom.now info start.args.order) in
     let size = measured.diin-data.result.at in
     let is : size ≡ moved 0 (length inside) = rw measured.before.before.new.ensures at measured.diin-data.ensures.place in
     let test = not-true (info.on && ((info.empty_info || not (eqb size 0)) && not (eqb size (2 ^ 64 - 1)))) c.if1.true in
@@ -32,7 +32,7 @@ returns c =
     rw (off, bytes-stop) (none (search rules) (search rules))
 
 returns-2 : tie.Need-returns-2
-unfolding diin hasDiin
+unfolding diin has_diin
 returns-2 c =
     let close = c.before.before in
     let written = close.before.before.before.before in
@@ -43,7 +43,7 @@ returns-2 c =
     let measured = go.before.before.before.before in
     let start = measured.before.before.before.before.before.before.before.before in
     let info = start.args.info in
-    let inside = bytes (infoChunks start.args.pool.now start.args.raw.now start.args.tracks.now start.args.custom.now info start.args.order) in
+    let inside = bytes (info_chunks start.args.pool.now start.args.raw.now start.args.tracks.now start.args.custom.now info start.args.order) in
     let size = measured.diin-data.result.at in
     let is : size ≡ moved 0 (length inside) = rw measured.before.before.new.ensures at measured.diin-data.ensures.place in
     let test = not-false (info.on && ((info.empty_info || not (eqb size 0)) && not (eqb size (2 ^ 64 - 1)))) go.if1.false in

@@ -9,13 +9,13 @@ use Rattle.tree.specs.Tree.{bytes, each}
 use Rattle.chunk_names.specs.declared.InfoChunk.TheVariants.{EditedMasterId}
 use Rattle.chunk.proofs.AppendLaws.{◌then◌, none}
 use Rattle.tree.proofs.TreeLaws.{bytes-each-next}
-use Rattle.master_info.specs.Diin.{infoChunk}
+use Rattle.master_info.specs.Diin.{info_chunk}
 use Rattle.master_info.proofs.diin.diin_data.Statement.{statement}
 use Rattle.master_info.proofs.diin.diin_data.Tie as tie
 
 abbrev invariant-loop : tie.invariant-loop
 invariant-loop out₀ pool raw tracks custom info order c₀ i₀ out c i =
-    (i ≤ 4) × (length out ≡ length out₀) × Appended out₀ c₀.at (bytes (each (infoChunk pool raw tracks custom info) (take i order))) out c.at
+    (i ≤ 4) × (length out ≡ length out₀) × Appended out₀ c₀.at (bytes (each (info_chunk pool raw tracks custom info) (take i order))) out c.at
 
 abbrev decreases-loop : tie.decreases-loop
 decreases-loop out₀ pool raw tracks custom info order c₀ i₀ out c i = 4 - i
@@ -32,7 +32,7 @@ loop-again c =
     let c₁ = c.before.before in
     let turn = c₁.before.before.before.before in
     let start = turn.before.before.before.before.before.before in
-    let f = infoChunk start.args.pool.now start.args.raw.now start.args.tracks.now start.args.custom.now start.args.info in
+    let f = info_chunk start.args.pool.now start.args.raw.now start.args.tracks.now start.args.custom.now start.args.info in
     let four : length start.args.t7 ≡ 4 = start.well-formed.1.1.1.1.1.1.0.1.0.1 in
     let more : turn.loop.i < length start.args.t7 = search rules in (
       search rules,

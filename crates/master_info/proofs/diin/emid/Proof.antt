@@ -1,7 +1,7 @@
 -- `diin::emid` meets its contract. Assumes nothing.
 use Rattle.chunk.proofs.AppendLaws.{none}
 use Rattle.tree.proofs.TreeLaws.{bytes-stop, bytes-leaf}
-use Rattle.texts.proofs.ExtentLaws.{part-places}
+use Rattle.texts.proofs.ExtentLaws.{part_places}
 use Rattle.master_info.specs.Diin.{emid}
 use borrow.Author.Rules.{rules}
 use Rattle.master_info.proofs.diin.emid.Statement.{statement}
@@ -19,7 +19,7 @@ returns-2 c =
     let given = places.before.before.before in
     let start = given.before.before.before.before in
     rw (given.id.given.1, bytes-leaf)
-    (rw (places.before.first.ensures, places.end.ensures, part-places start.args.raw.now _) at c₁.chunk.ensures)
+    (rw (places.before.first.ensures, places.end.ensures, part_places start.args.raw.now _) at c₁.chunk.ensures)
 
 pub emid-spec : {M : Type 1} → statement M
 emid-spec =

@@ -8,7 +8,7 @@ use lib.ListN.{length, take}
 use Rattle.chunk.specs.Append.{Appended}
 use Rattle.chunk_names.specs.Name.{Name}
 use Rattle.chunk.proofs.AppendLaws.{◌then◌, none}
-use Rattle.chunk.proofs.ListLaws.{flatMap-take}
+use Rattle.chunk.proofs.ListLaws.{flat_map-take}
 use Rattle.prop.proofs.property.chnl_data.Statement.{statement}
 use Rattle.prop.proofs.property.chnl_data.Tie as tie
 
@@ -37,7 +37,7 @@ loop-again c =
     let names = start.args.t4 in
     let six : length names ≡ 6 = start.well-formed.1.1.1.0.1.0.1 in
     let more : turn.loop.i < length names = search rules in
-    (search rules, search rules, rw (add-one, flatMap-take (λ (name : Name). name) names turn.loop.i [] more) (turn.loop.invariant.2 then c₁.name.ensures))
+    (search rules, search rules, rw (add-one, flat_map-take (λ (name : Name). name) names turn.loop.i [] more) (turn.loop.invariant.2 then c₁.name.ensures))
 
 returns : tie.Need-returns invariant-loop decreases-loop
 returns c =

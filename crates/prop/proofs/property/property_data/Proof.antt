@@ -9,13 +9,13 @@ use Rattle.tree.specs.Tree.{bytes, each}
 use Rattle.chunk_names.specs.declared.PropertyChunk.TheVariants.{SampleRate}
 use Rattle.chunk.proofs.AppendLaws.{◌then◌, none}
 use Rattle.tree.proofs.TreeLaws.{bytes-each-next}
-use Rattle.prop.specs.Property.{propertyChunk}
+use Rattle.prop.specs.Property.{property_chunk}
 use Rattle.prop.proofs.property.property_data.Statement.{statement}
 use Rattle.prop.proofs.property.property_data.Tie as tie
 
 abbrev invariant-loop : tie.invariant-loop
 invariant-loop out₀ p order c₀ i₀ out c i =
-    (i ≤ 5) × (length out ≡ length out₀) × Appended out₀ c₀.at (bytes (each (propertyChunk p) (take i order))) out c.at
+    (i ≤ 5) × (length out ≡ length out₀) × Appended out₀ c₀.at (bytes (each (property_chunk p) (take i order))) out c.at
 
 abbrev decreases-loop : tie.decreases-loop
 decreases-loop out₀ p order c₀ i₀ out c i = 5 - i
@@ -37,7 +37,7 @@ loop-again c =
     let start = turn.before.before.before.before.before.before.before.before in
     let five : length start.args.t3 ≡ 5 = start.well-formed.1.1.0.1.0.1 in
     let more : turn.loop.i < length start.args.t3 = search rules in
-    (search rules, search rules, rw (bytes-each-next (propertyChunk start.args.p) start.args.t3 turn.loop.i SampleRate more) (turn.loop.invariant.2 then c₁.property-chunk.ensures))
+    (search rules, search rules, rw (bytes-each-next (property_chunk start.args.p) start.args.t3 turn.loop.i SampleRate more) (turn.loop.invariant.2 then c₁.property-chunk.ensures))
 
 returns : tie.Need-returns invariant-loop decreases-loop
 returns c =

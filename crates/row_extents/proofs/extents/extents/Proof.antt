@@ -4,8 +4,8 @@ use Prim.Native.Nat.{◌≤◌, ◌-◌}
 use native.Mathlib.Omega.{arith}
 use borrow.Author.Rules.{rules}
 use Rattle.refusal.specs.Below.{any}
-use Rattle.rows.specs.Row.{extentAt}
-use Rattle.row_extents.specs.Extents.{isLong, isOutside, tooLarge, outsidePool}
+use Rattle.rows.specs.Row.{extent_at}
+use Rattle.row_extents.specs.Extents.{is_long, is_outside, too_large, outside_pool}
 use Rattle.refusal.proofs.BelowLaws.{below_none, below_more, below_all}
 use Rattle.row_extents.proofs.extents.extents.Statement.{statement}
 use Rattle.row_extents.proofs.extents.extents.Tie as tie
@@ -13,8 +13,8 @@ use Rattle.row_extents.proofs.extents.extents.Tie as tie
 abbrev invariant-loop : tie.invariant-loop
 invariant-loop kind rows most longest pool w n long₀ outside₀ k₀ long outside k =
     (k ≤ n)
-    × (long ≡ any (λ i. isLong longest (extentAt kind rows i)) k)
-    × (outside ≡ any (λ i. isOutside pool (extentAt kind rows i)) k)
+    × (long ≡ any (λ i. is_long longest (extent_at kind rows i)) k)
+    × (outside ≡ any (λ i. is_outside pool (extent_at kind rows i)) k)
 
 abbrev decreases-loop : tie.decreases-loop
 decreases-loop kind rows most longest pool w n long₀ outside₀ k₀ long outside k = n - k
@@ -25,12 +25,12 @@ loop-again c =
     let at-loop = c₁.before.before in
     let sized = at-loop.before.before in
     let args = sized.before.before.args in
-    let extent-is : c₁.extent-at.result ≡ extentAt args.kind args.rows.now at-loop.loop.k =
+    let extent-is : c₁.extent-at.result ≡ extent_at args.kind args.rows.now at-loop.loop.k =
     rw (← sized.width.ensures) c₁.extent-at.ensures in
-    (omega arith, below_more _ _ _ _ at-loop.loop.invariant.1 (ap (isLong _) extent-is) refl, below_more _ _ _ _ at-loop.loop.invariant.2 (ap (isOutside _) extent-is) refl)
+    (omega arith, below_more _ _ _ _ at-loop.loop.invariant.1 (ap (is_long _) extent-is) refl, below_more _ _ _ _ at-loop.loop.invariant.2 (ap (is_outside _) extent-is) refl)
 
 returns : tie.Need-returns invariant-loop decreases-loop
-unfolding tooLarge outsidePool
+unfolding too_large outside_pool
 returns c =
     let inv = c.before.before.loop.invariant in
     let all-long = below_all _ _ _ _ _ inv.1 inv.0 c.before.loop-test.false in

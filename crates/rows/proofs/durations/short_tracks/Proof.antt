@@ -2,14 +2,14 @@
 use mathlib.Core.Path.{◌≡◌}
 use Prim.Native.Nat.{◌≤◌, ◌-◌}
 use borrow.Author.Rules.{rules}
-use Rattle.refusal.specs.Below.{firstRefused}
-use Rattle.rows.specs.Durations.{shortTrack, shortTracks}
+use Rattle.refusal.specs.Below.{first_refused}
+use Rattle.rows.specs.Durations.{short_track, short_tracks}
 use Rattle.refusal.proofs.BelowLaws.{below_none, below_more, below_all}
 use Rattle.rows.proofs.durations.short_tracks.Statement.{statement}
 use Rattle.rows.proofs.durations.short_tracks.Tie as tie
 
 abbrev invariant-loop : tie.invariant-loop
-invariant-loop tracks n v₀ k₀ v k = (k ≤ n) × (v ≡ firstRefused (shortTrack tracks) k)
+invariant-loop tracks n v₀ k₀ v k = (k ≤ n) × (v ≡ first_refused (short_track tracks) k)
 
 abbrev decreases-loop : tie.decreases-loop
 decreases-loop tracks n v₀ k₀ v k = n - k
@@ -23,7 +23,7 @@ loop-again c =
     (search rules, below_more _ _ _ _ c.before.before.before.before.loop.invariant.1 short c.or_else.ensures)
 
 returns : tie.Need-returns invariant-loop decreases-loop
-unfolding shortTracks
+unfolding short_tracks
 returns c =
     rw (← c.before.before.count.ensures) (below_all _ _ _ _ _ c.before.loop.invariant.1 c.before.loop.invariant.0 c.loop-test.false)
 

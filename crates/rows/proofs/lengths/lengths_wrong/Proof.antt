@@ -8,14 +8,14 @@ use lib.Dec.{ltb}
 use lib.ListN.{length, get_or}
 use Rattle.refusal.specs.Below.{any}
 use Rattle.refusal.proofs.BelowLaws.{below_none, below_more}
-use Rattle.rows.specs.Lengths.{lengthWrong, lengthsWrong}
+use Rattle.rows.specs.Lengths.{length_wrong, lengths_wrong}
 use Rattle.rows.proofs.LengthLaws.{joined, before-wrong, halves}
 use Rattle.rows.proofs.lengths.lengths_wrong.Statement.{statement}
 use Rattle.rows.proofs.lengths.lengths_wrong.Tie as tie
 
 -- whether a length is wrong, by its place
 abbrev wrong : List ℕ → ℕ → Bool
-wrong ls k = lengthWrong (get_or ls k 0)
+wrong ls k = length_wrong (get_or ls k 0)
 
 -- the first i of either half
 abbrev invariant-loop : tie.invariant-loop
@@ -38,7 +38,7 @@ loop-again c =
     )
 
 returns : tie.Need-returns invariant-loop decreases-loop
-unfolding lengthsWrong
+unfolding lengths_wrong
 returns c =
     let l = c.before.loop in
     let s = c.before.before.before.args.lengths.now in

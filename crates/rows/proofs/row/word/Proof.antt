@@ -2,7 +2,7 @@
 use native.Mathlib.Omega.{arith}
 use lib.ListN.{length}
 use borrow.Author.Rules.{rules}
-use Rattle.rows.proofs.RowLaws.{rows-there, rows-past, row_word, no_word, word-past}
+use Rattle.rows.proofs.RowLaws.{rows-there, rows_past, row_word, no_word, word_past}
 use Rattle.rows.proofs.row.word.Statement.{statement}
 use Rattle.rows.proofs.row.word.Tie as tie
 
@@ -15,8 +15,8 @@ returns-2 : tie.Need-returns-2
 returns-2 c =
     let args = c.before.before.args in
     let wide = c.before.if1.false in
-    let past = rows-past (length args.rows.now) args.w args.k (omega (arith, wide)) c.if2.true in
-    word-past args.rows.now args.w args.k args.j (omega (arith, wide)) (omega (arith, past))
+    let past = rows_past (length args.rows.now) args.w args.k (omega (arith, wide)) c.if2.true in
+    word_past args.rows.now args.w args.k args.j (omega (arith, wide)) (omega (arith, past))
 
 mul_at : tie.Need-overflow-mul-at
 mul_at c =
@@ -32,7 +32,7 @@ returns-3 : tie.Need-returns-3
 returns-3 c =
     let args = c.before.before.before.args in
     let wide = c.before.before.if1.false in
-    word-past args.rows.now args.w args.k args.j (omega (arith, wide)) (omega (arith, c.if3.true))
+    word_past args.rows.now args.w args.k args.j (omega (arith, wide)) (omega (arith, c.if3.true))
 
 returns-4 : tie.Need-returns-4
 returns-4 c =

@@ -4,14 +4,14 @@ use Prim.Native.Nat.{◌≤◌, ◌-◌}
 use native.Mathlib.Omega.{arith}
 use Rattle.texts.specs.Extent.{part}
 use Rattle.refusal.specs.Below.{any}
-use Rattle.rows.specs.Row.{row_at, extentOf}
-use Rattle.rows.specs.Scalars.{hasNoScalar, noScalars}
+use Rattle.rows.specs.Row.{row_at, extent_of}
+use Rattle.rows.specs.Scalars.{has_no_scalar, no_scalars}
 use Rattle.refusal.proofs.BelowLaws.{below_none, below_more, below_all}
 use Rattle.rows.proofs.scalars.no_scalars.Statement.{statement}
 use Rattle.rows.proofs.scalars.no_scalars.Tie as tie
 
 abbrev invariant-loop : tie.invariant-loop
-invariant-loop rows pool w n found₀ k₀ found k = (k ≤ n) × (found ≡ any (λ i. hasNoScalar (part pool (extentOf w (row_at w rows i)))) k)
+invariant-loop rows pool w n found₀ k₀ found k = (k ≤ n) × (found ≡ any (λ i. has_no_scalar (part pool (extent_of w (row_at w rows i)))) k)
 
 abbrev decreases-loop : tie.decreases-loop
 decreases-loop rows pool w n found₀ k₀ found k = n - k
@@ -22,7 +22,7 @@ loop-again c =
     (omega arith, below_more _ _ _ _ c.before.before.before.loop.invariant.1 found refl)
 
 returns : tie.Need-returns invariant-loop decreases-loop
-unfolding noScalars
+unfolding no_scalars
 returns c =
     let counted = c.before.before in
     rw (← counted.count.ensures, ← counted.before.width.ensures) (below_all _ _ _ _ _ c.before.loop.invariant.1 c.before.loop.invariant.0 c.loop-test.false)

@@ -1,11 +1,11 @@
 -- `info::info_faults` meets its contract. Assumes nothing.
-use Rattle.rules.specs.Info.{infoFaults}
+use Rattle.rules.specs.Info.{info_faults}
 use borrow.Author.Rules.{rules}
 use Rattle.rules.proofs.info.info_faults.Statement.{statement}
 use Rattle.rules.proofs.info.info_faults.Tie as tie
 
 returns : tie.Need-returns
-unfolding infoFaults
+unfolding info_faults
 returns c =
     rw (
       c.when2.ensures,

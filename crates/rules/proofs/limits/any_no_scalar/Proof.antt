@@ -1,11 +1,11 @@
 -- `limits::any_no_scalar` meets its contract. Assumes nothing.
-use Rattle.rules.specs.Limits.{anyNoScalar}
+use Rattle.rules.specs.Limits.{any_no_scalar}
 use borrow.Author.Rules.{rules}
 use Rattle.rules.proofs.limits.any_no_scalar.Statement.{statement}
 use Rattle.rules.proofs.limits.any_no_scalar.Tie as tie
 
 returns : tie.Need-returns
-unfolding anyNoScalar
+unfolding any_no_scalar
 returns c =
     rw (
       c.no-scalars3.ensures,

@@ -1,10 +1,10 @@
 -- `limits::limit_faults` meets its contract. Assumes nothing.
-use Rattle.rules.specs.Limits.{limitFaults}
+use Rattle.rules.specs.Limits.{limit_faults}
 use Rattle.rules.proofs.limits.limit_faults.Statement.{statement}
 use Rattle.rules.proofs.limits.limit_faults.Tie as tie
 
 returns : tie.Need-returns
-unfolding limitFaults
+unfolding limit_faults
 returns c =
     rw (
       c.or-else2.ensures,

@@ -1,11 +1,11 @@
 -- `limits::row_faults` meets its contract. Assumes nothing.
-use Rattle.rules.specs.Limits.{anyTooLarge, anyOutside}
+use Rattle.rules.specs.Limits.{any_too_large, any_outside}
 use borrow.Author.Rules.{rules}
 use Rattle.rules.proofs.limits.row_faults.Statement.{statement}
 use Rattle.rules.proofs.limits.row_faults.Tie as tie
 
 returns : tie.Need-returns
-unfolding anyTooLarge anyOutside
+unfolding any_too_large any_outside
 returns c =
     let c₆ = c.before.before.before.before.before.before.before.before.before.before.before.before in
     let c₂ = c₆.before.before.before.before in

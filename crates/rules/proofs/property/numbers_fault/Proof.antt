@@ -2,7 +2,7 @@
 use mathlib.Core.Path.{sym}
 use native.Mathlib.Omega.{arith}
 use lib.Seq.{length-take-le}
-use Rattle.rules.specs.Property.{numbersFault}
+use Rattle.rules.specs.Property.{numbers_fault}
 use borrow.Author.Rules.{rules}
 use Rattle.rules.proofs.property.numbers_fault.Statement.{statement}
 use Rattle.rules.proofs.property.numbers_fault.Tie as tie
@@ -12,7 +12,7 @@ slice-aggregate-number-faults c =
     sym (length-take-le _ _ (omega (arith, c.before.before.before.before.at_most.ensures, c.before.before.before.before.before.words.type-inv.1.0.1)))
 
 returns : tie.Need-returns
-unfolding numbersFault
+unfolding numbers_fault
 returns c =
     rw (
       c.when.ensures,

@@ -1,11 +1,11 @@
 -- `property::property_faults` meets its contract. Assumes nothing.
-use Rattle.rules.specs.Property.{propertyFaults}
+use Rattle.rules.specs.Property.{property_faults}
 use borrow.Author.Rules.{rules}
 use Rattle.rules.proofs.property.property_faults.Statement.{statement}
 use Rattle.rules.proofs.property.property_faults.Tie as tie
 
 returns : tie.Need-returns
-unfolding propertyFaults
+unfolding property_faults
 returns c =
     rw (
       c.or-else3.ensures,

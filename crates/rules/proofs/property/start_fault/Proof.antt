@@ -1,11 +1,11 @@
 -- `property::start_fault` meets its contract. Assumes nothing.
-use Rattle.rules.specs.Property.{startFault}
+use Rattle.rules.specs.Property.{start_fault}
 use borrow.Author.Rules.{rules}
 use Rattle.rules.proofs.property.start_fault.Statement.{statement}
 use Rattle.rules.proofs.property.start_fault.Tie as tie
 
 returns : tie.Need-returns
-unfolding startFault
+unfolding start_fault
 returns c =
     rw (
       c.refuse-if.ensures,

@@ -1,16 +1,16 @@
 -- `text::text_pad` meets its contract. Assumes nothing.
 use Rattle.chunk.proofs.AppendLaws.{none}
-use Rattle.texts.specs.Text.{textPad}
+use Rattle.texts.specs.Text.{text_pad}
 use borrow.Author.Rules.{rules}
 use Rattle.texts.proofs.text.text_pad.Statement.{statement}
 use Rattle.texts.proofs.text.text_pad.Tie as tie
 
 returns : tie.Need-returns
-unfolding textPad
+unfolding text_pad
 returns c = rw c.before.before.before.before.if1.true c.before.before.pad.ensures
 
 returns-2 : tie.Need-returns-2
-unfolding textPad
+unfolding text_pad
 returns-2 c = rw c.if1.false (none (search rules) (search rules))
 
 pub text-pad-spec : {M : Type 1} → statement M

@@ -4,7 +4,7 @@ use borrow.Author.Rules.{rules}
 use borrow.Author.Tests.{not-true, not-false}
 use Rattle.tree.specs.Tree.{bytes, each}
 use Rattle.chunk.proofs.AppendLaws.{none}
-use Rattle.track_markers.proofs.SourceLaws.{source-past, source_row}
+use Rattle.track_markers.proofs.SourceLaws.{source_past, source_row}
 use Rattle.track_markers.proofs.from_toc.from_source.Statement.{statement}
 use Rattle.track_markers.proofs.from_toc.from_source.Tie as tie
 
@@ -12,7 +12,7 @@ returns : tie.Need-returns
 unfolding bytes each
 returns c =
     let args = c.before.before.before.before.before.before.args in
-    rw (source-past args.p args.tracks.now (search rules)) (none (search rules) (search rules))
+    rw (source_past args.p args.tracks.now (search rules)) (none (search rules) (search rules))
 
 returns-2 : tie.Need-returns-2
 unfolding bytes each

@@ -3,23 +3,23 @@ use borrow.Author.Rules.{rules}
 use borrow.Author.Tests.{eq-eqb, ne_eqb, not-true, not-false}
 use Rattle.tree.specs.Tree.{bytes, each}
 use Rattle.chunk.proofs.AppendLaws.{none}
-use Rattle.track_markers.specs.Program.{fromToc}
+use Rattle.track_markers.specs.Program.{from_toc}
 use Rattle.track_markers.proofs.from_toc.from_toc.Statement.{statement}
 use Rattle.track_markers.proofs.from_toc.from_toc.Tie as tie
 
 returns : tie.Need-returns
-unfolding fromToc
+unfolding from_toc
 returns c = rw (ne_eqb _ _ c.before.before.before.before.if1.true) c.before.before.from-source.ensures
 
 returns-2 : tie.Need-returns-2
-unfolding fromToc bytes each
+unfolding from_toc bytes each
 returns-2 c =
     let test = c.before.before in
     let off = rw c.before.has-program.ensures at (not-true c.before.has-program.result c.if2.true) in
     rw (eq-eqb _ _ test.if1.false, off) (none (search rules) (search rules))
 
 returns-3 : tie.Need-returns-3
-unfolding fromToc
+unfolding from_toc
 returns-3 c =
     let test₂ = c.before.before.before.before in
     let test₁ = test₂.before.before in

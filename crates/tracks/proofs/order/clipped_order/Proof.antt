@@ -1,7 +1,7 @@
 -- `from_toc::clipped_order` meets its contract. The loop's invariant: `o` knows the spans of the first i tracks. Assumes nothing.
 use Prim.Native.Nat.{◌≤◌, ◌-◌}
 use borrow.Author.Rules.{rules}
-use Rattle.tracks.proofs.OrderLaws.{Passed, passed_none, passed-next, passed-all}
+use Rattle.tracks.proofs.OrderLaws.{Passed, passed_none, passed-next, passed_all}
 use Rattle.tracks.proofs.order.clipped_order.Statement.{statement}
 use Rattle.tracks.proofs.order.clipped_order.Tie as tie
 
@@ -26,7 +26,7 @@ loop-again c =
 returns : tie.Need-returns invariant-loop decreases-loop
 returns c =
     let args = c.before.before.before.args in
-    let all = passed-all args.first args.end args.tracks.now c.before.loop.i (search rules) c.before.loop.invariant.1 in
+    let all = passed_all args.first args.end args.tracks.now c.before.loop.i (search rules) c.before.loop.invariant.1 in
     (all.left, (all.whole, (all.ordered, all.end)))
 
 pub clipped-order-spec : {M : Type 1} → statement M

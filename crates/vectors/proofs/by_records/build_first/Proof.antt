@@ -68,10 +68,10 @@ use Rattle.build_options.proofs.options.Options.TheLaws as Op'
 use Rattle.build_answer.specs.declared.answer.Answer.{Answer}
 use Rattle.build_answer.specs.contracts.answer.Answer as S
 use Rattle.build_answer.proofs.answer.Answer.TheLaws as S'
-use Rattle.build_options.specs.Inputs.{inputsOf}
+use Rattle.build_options.specs.Inputs.{inputs_of}
 use Rattle.assemble.specs.Build.{Builds}
 use Rattle.dsdiff.specs.declared.marker.Marker.{Marker}
-use Rattle.dsdiff.specs.Marker.{lookedAt}
+use Rattle.dsdiff.specs.Marker.{looked_at}
 use Rattle.dsdiff.specs.contracts.marker.Marker as T
 use Rattle.dsdiff.proofs.marker.Marker.TheLaws as T'
 use Rattle.dsdiff.specs.contracts.build as build
@@ -107,7 +107,7 @@ module _ {M : Type 1} {𝓤 : Ura M} (𝓛 : Logic 𝓤) (mem : Memory → SProp
 
 module _ {M : Type 1} {𝓤 : Ura M} (𝓛 : Logic 𝓤) (mem : Memory → SProp 𝓤) (run : Routine → Fun 𝓤) (κ₀ κ₁ κ₂ κ₃ κ₄ κ₅ κ₆ κ₇ κ₈ : Lft)
     (bounds : AllOutlive 9 (first.signature).outlives (κ₀, (κ₁, (κ₂, (κ₃, (κ₄, (κ₅, (κ₆, (κ₇, (κ₈, tt)))))))))) (q₀ q₁ q₂ q₃ q₄ q₅ q₆ q₇ q₈ : Share)
-    (markers : Bor (List ℕ)) (n : ℕ) (area : Area) (options : Options) (propertyOrder : List PropertyChunk) (infoOrder : List InfoChunk) (localOrder : List LocalChunk) (localCount : ℕ)
+    (markers : Bor (List ℕ)) (n : ℕ) (area : Area) (options : Options) (property_order : List PropertyChunk) (info_order : List InfoChunk) (local_order : List LocalChunk) (local_count : ℕ)
     (pool bytes tracks comments callers lengths header trailer : Bor (List ℕ)) (va vo vp vi vl : Val) where
   -- the parameters' machine values
   open 𝓛 use {H}
@@ -143,13 +143,13 @@ module _ {M : Type 1} {𝓤 : Ura M} (𝓛 : Logic 𝓤) (mem : Memory → SProp
   Arg = Bor (List ℕ) × (ℕ × (Area × (Options × (List PropertyChunk × (List InfoChunk × (List LocalChunk × (ℕ × (Bor (List ℕ) × (Bor (List ℕ) × (Bor (List ℕ) × (Bor (List ℕ) × (Bor (List ℕ) × (Bor (List ℕ) × (Bor (List ℕ) × (Bor (List ℕ) × Unit {0})))))))))))))))
 
   abbrev a : Arg
-  a = (markers, (n, (area, (options, (propertyOrder, (infoOrder, (localOrder, (localCount, (pool, (bytes, (tracks, (comments, (callers, (lengths, (header, (trailer, tt))))))))))))))))
+  a = (markers, (n, (area, (options, (property_order, (info_order, (local_order, (local_count, (pool, (bytes, (tracks, (comments, (callers, (lengths, (header, (trailer, tt))))))))))))))))
 
   abbrev Values : Type 0
   Values = List Val × (List Val × (List Val × (List Val × (List Val × (List Val × (List Val × (List Val × (List Val × (List Val × (List Val × (List Val × (List Val × (List Val × (List Val × (List Val × Unit {0})))))))))))))))
 
   abbrev vals : Values
-  vals = (v-markers ∷ [], (vint w64 n ∷ [], (va ∷ [], (vo ∷ [], (vp ∷ [], (vi ∷ [], (vl ∷ [], (vint w32 localCount ∷ [], (v-pool ∷ [], (v_bytes ∷ [], (v-tracks ∷ [], (v-comments ∷ [], (v-callers ∷ [], (v-lengths ∷ [], (v-header ∷ [], (v-trailer ∷ [], tt))))))))))))))))
+  vals = (v-markers ∷ [], (vint w64 n ∷ [], (va ∷ [], (vo ∷ [], (vp ∷ [], (vi ∷ [], (vl ∷ [], (vint w32 local_count ∷ [], (v-pool ∷ [], (v_bytes ∷ [], (v-tracks ∷ [], (v-comments ∷ [], (v-callers ∷ [], (v-lengths ∷ [], (v-header ∷ [], (v-trailer ∷ [], tt))))))))))))))))
 
   abbrev bound : (walk_of 𝓛 first.ended stayed (first.clauses 𝓛 mem run)).Ghost
   bound = (((κ₀, (κ₁, (κ₂, (κ₃, (κ₄, (κ₅, (κ₆, (κ₇, (κ₈, tt))))))))), (q₀, (q₁, (q₂, (q₃, (q₄, (q₅, (q₆, (q₇, (q₈, tt))))))))), bounds, a, vals), tt)
@@ -171,10 +171,10 @@ module _ {M : Type 1} {𝓤 : Ura M} (𝓛 : Logic 𝓤) (mem : Memory → SProp
   Lent = Area × (Options × (List PropertyChunk × (List InfoChunk × (List LocalChunk × (ℕ × (Bor (List ℕ) × (Bor (List ℕ) × (Bor (List ℕ) × (Bor (List Marker) × (Bor (List ℕ) × (Bor (List ℕ) × (Bor (List ℕ) × (Bor (List ℕ) × (Bor (List ℕ) × Unit {0}))))))))))))))
 
   abbrev lent : ℕ → GName → List Marker → Lent
-  lent b δ xs = (area, (options, (propertyOrder, (infoOrder, (localOrder, (localCount, (pool, (bytes, (tracks, (y b δ xs, (comments, (callers, (lengths, (header, (trailer, tt)))))))))))))))
+  lent b δ xs = (area, (options, (property_order, (info_order, (local_order, (local_count, (pool, (bytes, (tracks, (y b δ xs, (comments, (callers, (lengths, (header, (trailer, tt)))))))))))))))
 
   abbrev to-build : ℕ → ℕ → GName → List Marker → (Build 𝓛 mem run).Ghost
-  to-build b ν δ xs = (((κ₁, (κ₂, (κ₃, (ν ∷ [], (κ₄, (κ₅, (κ₆, (κ₇, (κ₈, tt))))))))), (q₁, (q₂, (q₃, (full_share, (q₄, (q₅, (q₆, (q₇, (q₈, tt))))))))), tt, lent b δ xs, (va ∷ [], (vo ∷ [], (vp ∷ [], (vi ∷ [], (vl ∷ [], (vint w32 localCount ∷ [], (v-pool ∷ [], (v_bytes ∷ [], (v-tracks ∷ [], (v-first b ∷ [], (v-comments ∷ [], (v-callers ∷ [], (v-lengths ∷ [], (v-header ∷ [], (v-trailer ∷ [], tt)))))))))))))))), tt)
+  to-build b ν δ xs = (((κ₁, (κ₂, (κ₃, (ν ∷ [], (κ₄, (κ₅, (κ₆, (κ₇, (κ₈, tt))))))))), (q₁, (q₂, (q₃, (full_share, (q₄, (q₅, (q₆, (q₇, (q₈, tt))))))))), tt, lent b δ xs, (va ∷ [], (vo ∷ [], (vp ∷ [], (vi ∷ [], (vl ∷ [], (vint w32 local_count ∷ [], (v-pool ∷ [], (v_bytes ∷ [], (v-tracks ∷ [], (v-first b ∷ [], (v-comments ∷ [], (v-callers ∷ [], (v-lengths ∷ [], (v-header ∷ [], (v-trailer ∷ [], tt)))))))))))))))), tt)
 
   -- the lifetimes of what goes to `dsdiff::build`, the last five and all
   abbrev After : Item 𝓤
@@ -185,7 +185,7 @@ module _ {M : Type 1} {𝓤 : Ura M} (𝓛 : Logic 𝓤) (mem : Memory → SProp
 
   -- what `dsdiff::build` ensures, at last lists h and t of the buffers
   abbrev Said : List Marker → Answer → List ℕ → List ℕ → Type 0
-  Said xs r h t = Builds (inputsOf area options propertyOrder infoOrder localOrder localCount pool.now bytes.now tracks.now (lookedAt options.custom_markers (take n xs)) comments.now callers.now lengths.now) header.now h trailer.now t r
+  Said xs r h t = Builds (inputs_of area options property_order info_order local_order local_count pool.now bytes.now tracks.now (looked_at options.custom_markers (take n xs)) comments.now callers.now lengths.now) header.now h trailer.now t r
 
   exits : (r : Answer) (w : Val) (h t : List ℕ) → length h ≡ length header.now → length t ≡ length trailer.now
       → ent 𝓤 (⋆ 𝓛 (‵ ((S.the_row).own_val r (w ∷ [])) ∷ After ∷ ‵ (flft κ₃ q₃) ∷ ‵ (flft κ₂ q₂) ∷ ‵ (flft κ₁ q₁) ∷ ‵ (flft κ₀ q₀) ∷ ‵ (finally u8 header.name h) ∷ ‵ (finally u8 trailer.name t) ∷ [])) (Post w)
@@ -198,21 +198,21 @@ module _ {M : Type 1} {𝓤 : Ura M} (𝓛 : Logic 𝓤) (mem : Memory → SProp
       nothing ! $ fjoin ! $ nothing ! $ fjoin ! $ nothing ! $ fjoin ! $ nothing ! $ fjoin ! $ nothing ! $ fjoin ! $ nothing ! $ fjoin ! $ nothing ! $ fjoin ! $ nothing ! $ fjoin ! $ nothing ! $ fjoin ! $ nothing ! $ fjoin ! $ nothing ! $ fjoin ! $ nothing ! $ fjoin ! $ nothing ! $ fjoin ! $ nothing ! $ fjoin ! $ done !
 
   module _ (C : Calls 𝓤 H) (Λ : Loops 𝓤 H) (fm : FmC 𝓤 H 𝓛.laws C) (known-records : Triple 𝓤 (C #vectors·records·records) (Records 𝓛 mem run)) (known-build : Triple 𝓤 (C #dsdiff·build) (Build 𝓛 mem run)) where
-    walk : n ≤ 65536 → n < 2 ^ 64 → Is Ar.the_row area (va ∷ []) → Is Op.the_row options (vo ∷ []) → Is (Array Pc.the_row 5) propertyOrder (vp ∷ []) → Is (Array Ic.the_row 4) infoOrder (vi ∷ []) → Is (Array Lc.the_row 5) localOrder (vl ∷ []) → localCount < 2 ^ 32
+    walk : n ≤ 65536 → n < 2 ^ 64 → Is Ar.the_row area (va ∷ []) → Is Op.the_row options (vo ∷ []) → Is (Array Pc.the_row 5) property_order (vp ∷ []) → Is (Array Ic.the_row 4) info_order (vi ∷ []) → Is (Array Lc.the_row 5) local_order (vl ∷ []) → local_count < 2 ^ 32
         → Room u32 (length markers.now) → Room u32 (length pool.now) → Room u8 (length bytes.now) → Room u32 (length tracks.now) → Room u32 (length comments.now) → Room u32 (length callers.now) → Room u32 (length lengths.now) → Room u8 (length header.now) → Room u8 (length trailer.now)
-        → ent 𝓤 (on_entry 𝓛 first.signature (κ₀, (κ₁, (κ₂, (κ₃, (κ₄, (κ₅, (κ₆, (κ₇, (κ₈, tt))))))))) (q₀, (q₁, (q₂, (q₃, (q₄, (q₅, (q₆, (q₇, (q₈, tt))))))))) a vals) (WpFn 𝓤 H C Λ code.function (v-markers ∷ vint w64 n ∷ va ∷ vo ∷ vp ∷ vi ∷ vl ∷ vint w32 localCount ∷ v-pool ∷ v_bytes ∷ v-tracks ∷ v-comments ∷ v-callers ∷ v-lengths ∷ v-header ∷ v-trailer ∷ []) Post)
+        → ent 𝓤 (on_entry 𝓛 first.signature (κ₀, (κ₁, (κ₂, (κ₃, (κ₄, (κ₅, (κ₆, (κ₇, (κ₈, tt))))))))) (q₀, (q₁, (q₂, (q₃, (q₄, (q₅, (q₆, (q₇, (q₈, tt))))))))) a vals) (WpFn 𝓤 H C Λ code.function (v-markers ∷ vint w64 n ∷ va ∷ vo ∷ vp ∷ vi ∷ vl ∷ vint w32 local_count ∷ v-pool ∷ v_bytes ∷ v-tracks ∷ v-comments ∷ v-callers ∷ v-lengths ∷ v-header ∷ v-trailer ∷ []) Post)
     walk few n-fits is-area is-options is-property is-info is-local count_fits room-markers room-pool room-bytes room-tracks room-comments room-callers room-lengths room-header room-trailer =
         qed 𝓛 ((‵ (flft κ₀ q₀) ⊛ ‵ (flft κ₁ q₁) ⊛ ‵ (flft κ₂ q₂) ⊛ ‵ (flft κ₃ q₃) ⊛ ‵ (flft κ₄ q₄) ⊛ ‵ (flft κ₅ q₅) ⊛ ‵ (flft κ₆ q₆) ⊛ ‵ (flft κ₇ q₇) ⊛ ‵ (flft κ₈ q₈) ⊛ ‵ ftrue)
-        ∷ ‵ (owns (ShrSlice (named 0) κ₀ u32 ∷ usize ∷ Ar.the_row ∷ Op.the_row ∷ Array Pc.the_row 5 ∷ Array Ic.the_row 4 ∷ Array Lc.the_row 5 ∷ u32 ∷ ShrSlice (named 1) κ₁ u32 ∷ ShrSlice (named 2) κ₂ u8 ∷ ShrSlice (named 3) κ₃ u32 ∷ ShrSlice (named 4) κ₄ u32 ∷ ShrSlice (named 5) κ₅ u32 ∷ ShrSlice (named 6) κ₆ u32 ∷ MutSlice (named 7) κ₇ u8 ∷ MutSlice (named 8) κ₈ u8 ∷ []) a vals) ∷ []) ∵ enter ! C Λ code.function (v-markers ∷ vint w64 n ∷ va ∷ vo ∷ vp ∷ vi ∷ vl ∷ vint w32 localCount ∷ v-pool ∷ v_bytes ∷ v-tracks ∷ v-comments ∷ v-callers ∷ v-lengths ∷ v-header ∷ v-trailer ∷ []) _ $
+        ∷ ‵ (owns (ShrSlice (named 0) κ₀ u32 ∷ usize ∷ Ar.the_row ∷ Op.the_row ∷ Array Pc.the_row 5 ∷ Array Ic.the_row 4 ∷ Array Lc.the_row 5 ∷ u32 ∷ ShrSlice (named 1) κ₁ u32 ∷ ShrSlice (named 2) κ₂ u8 ∷ ShrSlice (named 3) κ₃ u32 ∷ ShrSlice (named 4) κ₄ u32 ∷ ShrSlice (named 5) κ₅ u32 ∷ ShrSlice (named 6) κ₆ u32 ∷ MutSlice (named 7) κ₇ u8 ∷ MutSlice (named 8) κ₈ u8 ∷ []) a vals) ∷ []) ∵ enter ! C Λ code.function (v-markers ∷ vint w64 n ∷ va ∷ vo ∷ vp ∷ vi ∷ vl ∷ vint w32 local_count ∷ v-pool ∷ v_bytes ∷ v-tracks ∷ v-comments ∷ v-callers ∷ v-lengths ∷ v-header ∷ v-trailer ∷ []) _ $
         alloc1 ! (λ l₀. alloc1 ! (λ l₁. alloc1 ! (λ l₂. alloc1 ! (λ l₃. alloc1 ! (λ l₄. alloc1 ! (λ l₅. alloc1 ! (λ l₆. alloc1 ! (λ l₇. alloc1 ! (λ l₈. alloc1 ! (λ l₉. alloc1 ! (λ l₁₀. alloc1 ! (λ l₁₁. alloc1 ! (λ l₁₂. alloc1 ! (λ l₁₃. alloc1 ! (λ l₁₄. alloc1 ! (λ l₁₅. alloc1 ! (λ l₁₆. alloc1 ! (λ l₁₇. alloc1 ! (λ l₁₈. alloc1 ! (λ l₁₉. alloc1 ! (λ l₂₀. alloc1 ! (λ l₂₁. alloc1 ! (λ l₂₂. alloc1 ! (λ l₂₃. alloc1 ! (λ l₂₄. alloc0 ! $
         params1 ! $
         pass1 ! (init ! 46 refl (tt, (tt, (record { fits = room-markers.0 }, tt)))) $
         pass1 ! (init ! 44 refl (tt, record { fits = n-fits })) $
         pass1 ! (init ! 42 refl ((LL.lawful Ar.the_type Ar'.the_laws 𝓛).typed area _ is-area).0) $
         pass1 ! (init ! 40 refl ((LL.lawful Op.the_type Op'.the_laws 𝓛).typed options _ is-options).0) $
-        pass1 ! (init ! 38 refl (Array-Typed Pc.the_row (EL.lawful Pc.the_type Pc'.the_laws 𝓛 tt).typed 5 propertyOrder _ is-property).0) $
-        pass1 ! (init ! 36 refl (Array-Typed Ic.the_row (EL.lawful Ic.the_type Ic'.the_laws 𝓛 tt).typed 4 infoOrder _ is-info).0) $
-        pass1 ! (init ! 34 refl (Array-Typed Lc.the_row (EL.lawful Lc.the_type Lc'.the_laws 𝓛 tt).typed 5 localOrder _ is-local).0) $
+        pass1 ! (init ! 38 refl (Array-Typed Pc.the_row (EL.lawful Pc.the_type Pc'.the_laws 𝓛 tt).typed 5 property_order _ is-property).0) $
+        pass1 ! (init ! 36 refl (Array-Typed Ic.the_row (EL.lawful Ic.the_type Ic'.the_laws 𝓛 tt).typed 4 info_order _ is-info).0) $
+        pass1 ! (init ! 34 refl (Array-Typed Lc.the_row (EL.lawful Lc.the_type Lc'.the_laws 𝓛 tt).typed 5 local_order _ is-local).0) $
         pass1 ! (init ! 32 refl (tt, record { fits = count_fits })) $
         pass1 ! (init ! 30 refl (tt, (tt, (record { fits = room-pool.0 }, tt)))) $
         pass1 ! (init ! 28 refl (tt, (tt, (record { fits = room-bytes.0 }, tt)))) $

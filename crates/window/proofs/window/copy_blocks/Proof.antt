@@ -5,7 +5,7 @@ use Prim.Native.Nat.{◌+◌, ◌-◌, ◌≤◌}
 use native.Mathlib.Omega.{arith}
 use lib.ListN.{length, take, drop}
 use borrow.Author.Rules.{rules}
-use Rattle.window.proofs.WindowLaws.{copied_on, tail-long}
+use Rattle.window.proofs.WindowLaws.{copied_on, tail_long}
 use Rattle.window.proofs.window.copy_blocks.Statement.{statement}
 use Rattle.window.proofs.window.copy_blocks.Tie as tie
 
@@ -24,7 +24,7 @@ copy-block-requires c κs =
     let a = c.before.before.before.before.before.before.args in
     let g = c.before.before.loop-test.true in
     let p = c.before.before.before.before.before.before.requires in
-    (tail-long l.i 4096 l.out (omega (arith, g, p.0, l.invariant.2)), tail-long l.i 4096 a.src.now (omega (arith, g, p.1)))
+    (tail_long l.i 4096 l.out (omega (arith, g, p.0, l.invariant.2)), tail_long l.i 4096 a.src.now (omega (arith, g, p.1)))
 
 loop-again : tie.Need-loop-preserved invariant-loop decreases-loop
 loop-again c =
@@ -37,7 +37,7 @@ copy-requires c κs =
     let l = c.before.before.before.loop in
     let a = c.before.before.before.before.before.before.args in
     let p = c.before.before.before.before.before.before.requires in
-    (tail-long l.i (a.n - l.i) l.out (omega (arith, p.0, l.invariant.0, l.invariant.2)), tail-long l.i (a.n - l.i) a.src.now (omega (arith, p.1, l.invariant.0)))
+    (tail_long l.i (a.n - l.i) l.out (omega (arith, p.0, l.invariant.0, l.invariant.2)), tail_long l.i (a.n - l.i) a.src.now (omega (arith, p.1, l.invariant.0)))
 
 returns : tie.Need-returns invariant-loop decreases-loop
 returns c =

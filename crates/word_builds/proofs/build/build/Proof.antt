@@ -1,18 +1,18 @@
 -- `build::build` meets its contract. Assumes nothing.
 use mathlib.Core.Path.{refl}
 use borrow.Author.Rules.{rules}
-use Rattle.words.specs.Inputs.{inputsOfWords}
+use Rattle.words.specs.Inputs.{inputs_of_words}
 use Rattle.word_builds.proofs.build.build.Statement.{statement}
 use Rattle.word_builds.proofs.build.build.Tie as tie
 
 returns : tie.Need-returns
-unfolding inputsOfWords
+unfolding inputs_of_words
 returns c =
     rw (← c.before.before.before.words-fault.ensures, c.before.fault.given.1)
     (record { orders = record { property = refl; info = refl; local = refl }; answers = refl; header = refl; trailer = refl })
 
 returns-2 : tie.Need-returns-2
-unfolding inputsOfWords
+unfolding inputs_of_words
 returns-2 c =
     let built = c.before.before.before.before in
     let word = built.before.before.before in
@@ -22,7 +22,7 @@ returns-2 c =
     let options = property.before in
     let area = options.before in
     let told = area.before in
-    let b = rw (word.word.ensures, local.local-order.ensures, info.info-order.ensures, property.property-order.ensures, options.options-of.ensures, area.area_of.ensures) at built.build-rows.ensures in
+    let b = rw (word.word.ensures, local.local_order_lem.ensures, info.info_order_lem.ensures, property.property_order_lem.ensures, options.options-of.ensures, area.area_of.ensures) at built.build-rows.ensures in
     rw (← told.before.before.words-fault.ensures, told.enum_told.given.1) b
 
 pub build-spec : {M : Type 1} → statement M

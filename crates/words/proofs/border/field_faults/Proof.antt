@@ -1,10 +1,10 @@
 -- `border::field_faults` meets its contract. Assumes nothing.
-use Rattle.words.specs.Border.{fieldFaults}
+use Rattle.words.specs.Border.{field_faults}
 use Rattle.words.proofs.border.field_faults.Statement.{statement}
 use Rattle.words.proofs.border.field_faults.Tie as tie
 
 returns : tie.Need-returns
-unfolding fieldFaults
+unfolding field_faults
 returns c =
     let joined = c.before.before.before.before.before in
     rw (

@@ -1,10 +1,10 @@
 -- `border::name_faults` meets its contract. Assumes nothing.
-use Rattle.words.specs.Border.{nameFaults}
+use Rattle.words.specs.Border.{name_faults}
 use Rattle.words.proofs.border.name_faults.Statement.{statement}
 use Rattle.words.proofs.border.name_faults.Tie as tie
 
 returns : tie.Need-returns
-unfolding nameFaults
+unfolding name_faults
 returns c =
     let joined = c.before.before.before in
     rw (

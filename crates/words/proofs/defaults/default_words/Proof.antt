@@ -1,11 +1,11 @@
 -- `defaults::default_words` meets its contract. Assumes nothing.
 use mathlib.Core.Path.{refl}
-use Rattle.words.specs.Defaults.{defaultWords}
+use Rattle.words.specs.Defaults.{default_words}
 use Rattle.words.proofs.defaults.default_words.Statement.{statement}
 use Rattle.words.proofs.defaults.default_words.Tie as tie
 
 returns : tie.Need-returns
-unfolding defaultWords
+unfolding default_words
 returns c = refl
 
 pub default-words-spec : {M : Type 1} → statement M

@@ -9,13 +9,13 @@ use borrow.Author.Rules.{rules}
 use lib.ListN.{length, set, get_or}
 use lib.Seq.{paste, paste-zero, paste-suc}
 use Rattle.chunk.proofs.AppendLaws.{copied}
-use Rattle.words.specs.Defaults.{defaultWords}
+use Rattle.words.specs.Defaults.{default_words}
 use Rattle.words.proofs.defaults.fill_defaults.Statement.{statement}
 use Rattle.words.proofs.defaults.fill_defaults.Tie as tie
 
 -- there are 67
-many : length defaultWords ≡ 67
-unfolding defaultWords
+many : length default_words ≡ 67
+unfolding default_words
 many = refl
 
 -- one more word at the front
@@ -23,13 +23,13 @@ one_more : (d s : List ℕ) (j : ℕ) → j < length d → j < length s → set 
 one_more d s j hd hs = subst (λ (k : ℕ). set (paste d 0 s j) k (get_or s j 0) ≡ paste d 0 s (suc j)) (zero-add j) (paste-suc d 0 s j 0 (omega (arith, hd)) hs)
 
 abbrev invariant-loop : tie.invariant-loop
-invariant-loop words₀ defaults n i₀ words i = (i ≤ n) × (length words ≡ length words₀) × (words ≡ paste words₀ 0 defaultWords i)
+invariant-loop words₀ defaults n i₀ words i = (i ≤ n) × (length words ≡ length words₀) × (words ≡ paste words₀ 0 default_words i)
 
 abbrev decreases-loop : tie.decreases-loop
 decreases-loop words₀ defaults n i₀ words i = n - i
 
 loop-holds : tie.Need-loop-init invariant-loop decreases-loop
-loop-holds c = (search rules, refl, paste-zero c.before.before.before.args.words.now 0 defaultWords)
+loop-holds c = (search rules, refl, paste-zero c.before.before.before.args.words.now 0 default_words)
 
 loop-again : tie.Need-loop-preserved invariant-loop decreases-loop
 loop-again c =
@@ -39,10 +39,10 @@ loop-again c =
     let words₀ = start.args.words.now in
     let fits = turn.before.fitting.ensures in
     let there : i < length words₀ = omega (arith, fits, c.loop-test.true) in
-    let more : i < length defaultWords = omega (arith, fits, c.loop-test.true, many) in (
+    let more : i < length default_words = omega (arith, fits, c.loop-test.true, many) in (
       search rules,
       search rules,
-      rw (turn.loop.invariant.2, turn.before.before.default-words.ensures, add-one) (one_more words₀ defaultWords i there more),
+      rw (turn.loop.invariant.2, turn.before.before.default_words_lem.ensures, add-one) (one_more words₀ default_words i there more),
     )
 
 returns : tie.Need-returns invariant-loop decreases-loop

@@ -1,10 +1,10 @@
 -- `inputs::area_of` meets its contract. Assumes nothing.
-use Rattle.words.specs.Inputs.{areaOf}
+use Rattle.words.specs.Inputs.{area_of}
 use Rattle.words.proofs.inputs.area_of.Statement.{statement}
 use Rattle.words.proofs.inputs.area_of.Tie as tie
 
 returns : tie.Need-returns
-unfolding areaOf
+unfolding area_of
 returns c = cc
 
 pub area-of-spec : {M : Type 1} → statement M

@@ -1,10 +1,10 @@
 -- `inputs::channel_numbers` meets its contract. Assumes nothing.
-use Rattle.words.specs.Inputs.{channelNumbersOf}
+use Rattle.words.specs.Inputs.{channel_numbers_of}
 use Rattle.words.proofs.inputs.channel_numbers.Statement.{statement}
 use Rattle.words.proofs.inputs.channel_numbers.Tie as tie
 
 returns : tie.Need-returns
-unfolding channelNumbersOf
+unfolding channel_numbers_of
 returns c = cc
 
 pub channel-numbers-spec : {M : Type 1} → statement M

@@ -3,13 +3,13 @@ use mathlib.Core.Path.{ap, ap₂, ◌∙◌}
 use Rattle.meanings.specs.Sound.{offset_of}
 use Rattle.meanings.specs.Property.{start_of}
 use Rattle.meanings.specs.Diin.{source_of}
-use Rattle.meanings.specs.Options.{switchOf, replacementOf}
-use Rattle.words.specs.Inputs.{choicesOf}
+use Rattle.meanings.specs.Options.{switch_of, replacement_of}
+use Rattle.words.specs.Inputs.{choices_of}
 use Rattle.words.proofs.inputs.options_of.Statement.{statement}
 use Rattle.words.proofs.inputs.options_of.Tie as tie
 
 returns : tie.Need-returns
-unfolding choicesOf
+unfolding choices_of
 returns c =
     let replaced = c.before.before.before.before in
     let tags = replaced.before.before.before in
@@ -37,11 +37,11 @@ returns c =
       clipped_program = marks.before.before.is-set12.ensures i;
       marker_titles = marks.before.is-set13.ensures i;
       text_pad_counted = marks.is-set14.ensures i;
-      artist_title = (switch.artist-title.ensures ∙ ap switchOf switch.before.word4.ensures) i;
-      artist_title_source = (source.artist-title-source.ensures ∙ ap source_of source.before.byte.ensures) i;
+      artist_title = (switch.artist_title.ensures ∙ ap switch_of switch.before.word4.ensures) i;
+      artist_title_source = (source.artist_title_source.ensures ∙ ap source_of source.before.byte.ensures) i;
       album = record { artist = tags.before.before.before.text_at.ensures i; title = tags.before.before.text-at2.ensures i };
       track = record { artist = tags.before.text-at3.ensures i; title = tags.text-at4.ensures i };
-      text_replacement = (replaced.replacement.ensures ∙ ap₂ replacementOf replaced.before.before.is-set15.ensures replaced.before.byte2.ensures) i;
+      text_replacement = (replaced.replacement.ensures ∙ ap₂ replacement_of replaced.before.before.is-set15.ensures replaced.before.byte2.ensures) i;
       empty_text = c.before.before.before.is-set16.ensures i;
       empty_info = c.before.before.is-set17.ensures i;
       d1 = c.before.is-set18.ensures i;

@@ -1,10 +1,10 @@
 -- `verdict::verdict` meets its contract. Assumes nothing.
-use Rattle.words.specs.Inputs.{inputsOfWords}
+use Rattle.words.specs.Inputs.{inputs_of_words}
 use Rattle.words.proofs.verdict.verdict.Statement.{statement}
 use Rattle.words.proofs.verdict.verdict.Tie as tie
 
 returns : tie.Need-returns
-unfolding inputsOfWords
+unfolding inputs_of_words
 returns c =
     let v = c.before in
     let word = v.before in
@@ -18,9 +18,9 @@ returns c =
       c.or_else.ensures,
       v.verdict.ensures,
       word.word.ensures,
-      local.local-order.ensures,
-      info.info-order.ensures,
-      property.property-order.ensures,
+      local.local_order_lem.ensures,
+      info.info_order_lem.ensures,
+      property.property_order_lem.ensures,
       options.options-of.ensures,
       area.area_of.ensures,
       fault.words-fault.ensures,

@@ -6,19 +6,19 @@ use borrow.Author.Tests.{not-true, not-false}
 use Rattle.tree.specs.Tree.{bytes, each}
 use Rattle.chunk.proofs.AppendLaws.{none}
 use Rattle.tree.proofs.TreeLaws.{bytes-each-one}
-use Rattle.track_markers.specs.Pass.{stopIf}
+use Rattle.track_markers.specs.Pass.{stop_if}
 use Rattle.track_markers.proofs.program.Written.close.Statement.{statement}
 use Rattle.track_markers.proofs.program.Written.close.Tie as tie
 
 returns : tie.Need-returns
-unfolding stopIf bytes each
+unfolding stop_if bytes each
 returns c =
     let start = c.before.before.before.before.before.before in
     let done : start.args.self.pending ≡ false = not-true _ c.if1.true in
     rw done (none (search rules) (search rules))
 
 returns-2 : tie.Need-returns-2
-unfolding stopIf
+unfolding stop_if
 returns-2 c =
     let made = c.before.before.before in
     let go = made.before.before in

@@ -2,7 +2,7 @@
 use mathlib.Core.Logic.{inr}
 use native.Mathlib.Omega.{arith}
 use borrow.Author.Rules.{rules}
-use Rattle.window.proofs.WindowLaws.{unseen, tail-put, tail-fits}
+use Rattle.window.proofs.WindowLaws.{unseen, tail_put, tail_fits}
 use Rattle.window.proofs.window.Window.put.Statement.{statement}
 use Rattle.window.proofs.window.Window.put.Tie as tie
 
@@ -10,10 +10,10 @@ returns : tie.Need-returns
 returns c = rw c.pass.ensures (unseen _ _ _ (inr c.before.if1.true))
 
 add-t6 : tie.Need-overflow-add-t6
-add-t6 c = let h = tail-fits c.before.before.before.before.before.before.before.before.args.out.now (search rules) c.before.before.before.lay.ensures in omega (arith, h)
+add-t6 c = let h = tail_fits c.before.before.before.before.before.before.before.before.args.out.now (search rules) c.before.before.before.lay.ensures in omega (arith, h)
 
 returns-2 : tie.Need-returns-2
-returns-2 c = tail-put (search rules) c.before.before.before.lay.ensures
+returns-2 c = tail_put (search rules) c.before.before.before.lay.ensures
 
 pub put_spec : {M : Type 1} → statement M
 put_spec =
