@@ -1,5 +1,7 @@
 // The library for programs in other languages: numbers and plain slices, and nothing worked out here. A slice is a pointer and the number of
 // its elements.
+#![tactic(auto)]
+
 pub mod text; // text.rt: converted texts, DIAR and DITI, COMT
 pub mod sound; // sound.rt: the CRC, the DST chunk's head and index, and reads of the sound
 pub mod property; // property.rt: PROP

@@ -3,7 +3,7 @@ ghost use Rattle.std.specs.Prelude.{◌≡◌};
 ghost use Rattle.build_answer.specs.Answer.{build_number, build_values};
 
 // What a build answers.
-#[derive(Drop)]
+#[derive(Clone, Copy)]
 pub enum Answer {
     Built {
         header: u64,

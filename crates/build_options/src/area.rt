@@ -5,7 +5,7 @@ ghost use Rattle.build_options.specs.Area.{area_positions, is_dst, unspecified};
 use prop_fields::compression::Sound;
 use prop_fields::layout::Layout;
 
-#[derive(Drop)]
+#[derive(Clone, Copy)]
 pub struct Area {
     pub sound: Sound,
     pub playtime: u32, // in frames

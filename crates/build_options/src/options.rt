@@ -14,7 +14,7 @@ use texts::text::{TextOptions, TextRule};
 use tracks::order::ProgramOptions;
 
 // A switch that may be left alone.
-#[derive(Drop)]
+#[derive(Clone, Copy)]
 pub enum Switch {
     Unset,
     On,
@@ -22,14 +22,14 @@ pub enum Switch {
 }
 
 // What stands for a value that is no text byte.
-#[derive(Drop)]
+#[derive(Clone, Copy)]
 pub enum Replacement {
     Nothing, // it is removed
     Byte(u8),
 }
 
 // What a caller chooses, beside the orders of chunks. Texts are extents of the lent pools.
-#[derive(Drop)]
+#[derive(Clone, Copy)]
 pub struct Options {
     pub channel_numbers: ChannelNumbers, // of an unspecified layout
     pub unspecified_loudspeaker_configuration: bool, // whether such a layout has LSCO
@@ -60,7 +60,7 @@ pub struct Options {
 }
 
 // What holds in the end of the options that an edited master changes.
-#[derive(Drop)]
+#[derive(Clone, Copy)]
 pub struct Settings {
     pub start: Start,
     pub info: bool,

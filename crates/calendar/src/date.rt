@@ -5,7 +5,7 @@ ghost use Rattle.calendar.specs.Date.{is_leap, is_short, days_in, is_date, is_un
 use refusal::verdict::{Verdict, refuse_if};
 
 // A date and a time of day, to the minute.
-#[derive(Drop)]
+#[derive(Clone, Copy)]
 pub struct Stamp {
     pub year: u32,
     pub month: u32,

@@ -6,7 +6,7 @@ use crate::date::Stamp;
 use refusal::verdict::Verdict;
 
 // Whether a note falls in a window, or the refusal.
-#[derive(Drop)]
+#[derive(Clone, Copy)]
 pub enum Falls {
     Told(bool),
     Refused { number: u8, detail: u64 },

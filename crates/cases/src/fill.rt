@@ -4,7 +4,7 @@ use crate::part::{byte, find, part};
 use single_words::word::word;
 
 // Where the next number goes, and where the row that it is in begins.
-#[derive(Drop)]
+#[derive(Clone, Copy)]
 struct Pen {
     at: usize,
     row: usize,

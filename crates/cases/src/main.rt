@@ -1,5 +1,7 @@
 // Runs a table of cases through the verdict on a build's inputs and writes what is answered. The file stdin has the table, of at most 65,536 bytes, and
 // says how to read it; the file stdout holds what document 01 wants. Each refusal is tried on either side of its limit, and with its neighbour.
+#![tactic(auto)]
+
 mod part; // part.rt: parts of a text
 mod number; // number.rt: a number of a text
 mod names; // names.rt: which word or list a name stands for

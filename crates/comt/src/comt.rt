@@ -18,7 +18,7 @@ const WORDS: usize = 9;
 // What the count of COMT can tell (refusal 36).
 const MOST_COMMENTS: usize = 65_535;
 
-#[derive(Drop)]
+#[derive(Clone, Copy)]
 pub struct Comment {
     pub year: u32,
     pub month: u32,

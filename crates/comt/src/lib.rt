@@ -1,2 +1,4 @@
 // The comments of a file: COMT.
+#![tactic(auto)]
+
 pub mod comt; // comt.rt: COMT

@@ -11,7 +11,7 @@ use texts::extent::Extent;
 use texts::text::TextOptions;
 
 // A text that may be missing. A given one, though empty, is present.
-#[derive(Drop)]
+#[derive(Clone, Copy)]
 pub enum Text {
     Absent,
     Given(Extent),

@@ -1,2 +1,4 @@
 // The texts of DIIN: DIAR and DITI.
+#![tactic(auto)]
+
 pub mod diin_text; // diin_text.rt: DIAR and DITI

@@ -1,5 +1,7 @@
 // Header and trailer of a DSDIFF file, from the inputs of a build.
 // Its markers are lent as records. They are taken apart into a table of rows, one after the other; all else goes by the table.
+#![tactic(auto)]
+
 pub mod marker; // marker.rt: markers as records, and the table of their rows
 
 ghost use Rattle.std.specs.Prelude.{◌≡◌, List, ◌≤◌, length, take};

@@ -5,7 +5,7 @@ ghost use Rattle.dsdiff.specs.Table.{stored, filled};
 use markers::marker::MarkerKind;
 use texts::extent::Extent;
 
-#[derive(Drop)]
+#[derive(Clone, Copy)]
 pub struct Marker {
     pub frame: u32,
     pub kind: MarkerKind,

@@ -7,7 +7,7 @@ use chunk::Cursor;
 use dst::unit::{plus, unit_size};
 
 // What an entry's offset leads to.
-#[derive(Drop)]
+#[derive(Clone, Copy)]
 pub enum DstIndexOffset {
     ChunkHeader, // the first byte of the DSTF chunk
     FrameData, // the frame's first byte, 12 bytes on

@@ -1,4 +1,6 @@
 // Works out the figures of document 01 and prints them; the file stdout holds what they must be.
+#![tactic(auto)]
+
 mod chunks; // chunks.rt: numbers, chunks, frame times, names
 mod text; // text.rt: converted texts, DIAR and DITI, COMT
 mod text_cases; // text_cases.rt: their pools and comments

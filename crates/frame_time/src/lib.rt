@@ -1,2 +1,4 @@
 // Times of frames.
+#![tactic(auto)]
+
 pub mod time; // time.rt: the time of a frame

@@ -13,7 +13,7 @@ const FRAMES_PER_HOUR: u64 = 270_000;
 
 const SAMPLES_PER_FRAME: u64 = 37_632;
 
-#[derive(Drop)]
+#[derive(Clone, Copy)]
 pub struct FrameTime {
     pub hours: u16,
     pub minutes: u8,

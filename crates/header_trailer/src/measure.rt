@@ -8,7 +8,7 @@ use chunk::Cursor;
 use chunk_names::{InfoChunk, LocalChunk, PropertyChunk};
 
 // The lengths of FRM8's data before the sound, and of the trailer.
-#[derive(Drop)]
+#[derive(Clone, Copy)]
 pub struct Lengths {
     pub front: usize,
     pub back: usize,

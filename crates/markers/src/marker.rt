@@ -17,7 +17,7 @@ const OFFSET: u32 = 0;
 
 const CHANNEL: u16 = 0;
 
-#[derive(Drop)]
+#[derive(Clone, Copy)]
 pub enum MarkerKind {
     TrackStart,
     TrackStop,
@@ -26,14 +26,14 @@ pub enum MarkerKind {
 }
 
 // The text of a marker: none, bytes of the byte pool as they are, or a title of the text pool, which is converted.
-#[derive(Drop)]
+#[derive(Clone, Copy)]
 pub enum MarkerText {
     Empty,
     Bytes(Extent),
     Title(Extent),
 }
 
-#[derive(Drop)]
+#[derive(Clone, Copy)]
 pub struct Marker {
     pub frame: u32, // of the area
     pub kind: MarkerKind,
@@ -42,7 +42,7 @@ pub struct Marker {
 }
 
 // How markers are written: the options of their texts, the file's start, and the first frame of the range.
-#[derive(Drop)]
+#[derive(Clone, Copy)]
 pub struct Marking {
     pub text: TextOptions,
     pub start: Start,

@@ -15,7 +15,7 @@ use texts::text::TextOptions;
 use tracks::order::ProgramOptions;
 
 // What DIIN tells.
-#[derive(Drop)]
+#[derive(Clone, Copy)]
 pub struct Info {
     pub on: bool, // whether there is a DIIN
     pub empty_info: bool, // whether one without chunks is written

@@ -4,7 +4,7 @@ ghost use Rattle.master_info.specs.Pick.{of_track, first_present, pick};
 
 use diin_texts::diin_text::Text;
 
-#[derive(Drop)]
+#[derive(Clone, Copy)]
 pub enum ArtistTitleSource {
     Album,
     Track,
@@ -12,7 +12,7 @@ pub enum ArtistTitleSource {
 }
 
 // The artist and the title of an album or of a track.
-#[derive(Drop)]
+#[derive(Clone, Copy)]
 pub struct ArtistTitle {
     pub artist: Text,
     pub title: Text,

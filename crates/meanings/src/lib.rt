@@ -1,4 +1,6 @@
 // What single numbers mean: each is made into a type of a build's inputs.
+#![tactic(auto)]
+
 pub mod text; // text.rt: the rule, the options and the place of a text
 pub mod property; // property.rt: the kind of sound, the layout, the start, the order of PROP
 pub mod diin; // diin.rt: a text of three words, whose artist and title, the order of DIIN

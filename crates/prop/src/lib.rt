@@ -1,2 +1,4 @@
 // The properties of the sound: PROP.
+#![tactic(auto)]
+
 pub mod property; // property.rt: PROP

@@ -16,7 +16,7 @@ use prop_fields::start::Start;
 const SAMPLE_RATE: u32 = 2_822_400;
 
 // What PROP tells.
-#[derive(Drop)]
+#[derive(Clone, Copy)]
 pub struct Properties {
     pub sound: Sound,
     pub layout: Layout,

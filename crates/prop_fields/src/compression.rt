@@ -5,7 +5,7 @@ ghost use Rattle.prop_fields.specs.Compression.{compression_data, cmpr_data};
 use chunk::Cursor;
 
 // The sound of a file.
-#[derive(Drop)]
+#[derive(Clone, Copy)]
 pub enum Sound {
     Dsd,
     Dst,

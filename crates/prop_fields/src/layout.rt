@@ -3,7 +3,7 @@ ghost use Rattle.std.specs.Prelude.{◌≡◌, map, min};
 ghost use Rattle.prop_fields.specs.Layout.{numbers_of, digit, channel_name, channel_count, six_names, speaker_code};
 
 // The speakers of an area.
-#[derive(Drop)]
+#[derive(Clone, Copy)]
 pub enum Layout {
     Stereo,
     ThreeTwo,
@@ -12,7 +12,7 @@ pub enum Layout {
 }
 
 // The numbers of an unspecified layout's channels, if they are given.
-#[derive(Drop)]
+#[derive(Clone, Copy)]
 pub struct ChannelNumbers {
     pub given: bool,
     pub count: u32,

@@ -2,7 +2,7 @@
 ghost use Rattle.std.specs.Prelude.{◌≡◌};
 ghost use Rattle.prop_fields.specs.Start.{is_given, start_frame};
 
-#[derive(Drop)]
+#[derive(Clone, Copy)]
 pub enum Start {
     Absent,
     Given(u32),

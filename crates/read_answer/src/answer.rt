@@ -4,13 +4,13 @@ ghost use Rattle.read_answer.specs.Answer.{query_number, query_values, read_numb
 
 use sound_reads::place::Positions;
 
-#[derive(Drop)]
+#[derive(Clone, Copy)]
 pub enum QueryAnswer {
     Needed(Positions), // the positions that the read needs
     Refused { number: u8, detail: u64 }, // document 01's number of the refusal
 }
 
-#[derive(Drop)]
+#[derive(Clone, Copy)]
 pub enum ReadAnswer {
     Filled(u64), // how many bytes, from the buffer's front on
     Refused { number: u8, detail: u64 },

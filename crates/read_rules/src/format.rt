@@ -7,7 +7,7 @@ use prop_fields::compression::Sound;
 use refusal::verdict::{Verdict, refuse_if};
 
 // What is told besides the lengths of DST frames. The number of positions is that of DSD; DST has as many as lengths.
-#[derive(Drop)]
+#[derive(Clone, Copy)]
 pub struct SoundFormat {
     pub sound: Sound,
     pub crc: bool, // DST only

@@ -1,1 +1,2 @@
 // No function: which numbers a refusal has.
+#![tactic(auto)]

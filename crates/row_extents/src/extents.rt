@@ -5,7 +5,7 @@ ghost use Rattle.row_extents.specs.Extents.{too_large, outside_pool};
 use rows::row::Row;
 
 // What is wrong with rows: an extent or the rows are too many (1); an extent, or the last row, runs outside its pool (2).
-#[derive(Drop)]
+#[derive(Clone, Copy)]
 pub struct RowFaults {
     pub too_large: bool,
     pub outside: bool,

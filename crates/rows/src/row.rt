@@ -5,7 +5,7 @@ ghost use Rattle.rows.specs.Row.{width, row_at, extent_of, count_of_rows, cut_sh
 use texts::extent::Extent;
 
 // What a row tells.
-#[derive(Drop)]
+#[derive(Clone, Copy)]
 pub enum Row {
     Text, // start, length
     Caller, // name, start, length

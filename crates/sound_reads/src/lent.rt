@@ -10,7 +10,7 @@ use dst::unit::plus;
 use window::window::Window;
 
 // The answer of a read: the place after the sound, or that what is lent does not have the lengths that it should (refusal 43).
-#[derive(Drop)]
+#[derive(Clone, Copy)]
 pub enum Fill {
     Filled(Window),
     NotLent,

@@ -1,7 +1,7 @@
 // An extent (document 01's stretch): so many elements of a lent pool, from a start on.
 ghost use Rattle.std.specs.Prelude.{◌≡◌, ◌+◌, min};
 
-#[derive(Drop)]
+#[derive(Clone, Copy)]
 pub struct Extent {
     pub start: u32,
     pub length: u32,

@@ -9,7 +9,7 @@ use crate::extent::Extent;
 use chunk::Cursor;
 
 // What becomes of a value that is no text byte.
-#[derive(Drop)]
+#[derive(Clone, Copy)]
 pub enum TextRule {
     Replace(u8), // this byte stands for it
     Remove, // it vanishes
@@ -17,7 +17,7 @@ pub enum TextRule {
 }
 
 // The options of texts that have a count.
-#[derive(Drop)]
+#[derive(Clone, Copy)]
 pub struct TextOptions {
     pub rule: TextRule,
     pub empty_text: bool, // whether a text without bytes is written

@@ -14,7 +14,7 @@ use tracks::order::ProgramOptions;
 use tracks::track::Span;
 
 // How far spans were written, and the stop of the last one, which is written when the next is known.
-#[derive(Drop)]
+#[derive(Clone, Copy)]
 struct Written {
     end: Cursor,
     pending: bool, // whether there is one

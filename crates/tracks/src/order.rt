@@ -7,7 +7,7 @@ ghost use Rattle.tracks.specs.Steps.{order_with};
 use crate::track::Span;
 
 // What decides the markers that are made from tracks.
-#[derive(Drop)]
+#[derive(Clone, Copy)]
 pub struct ProgramOptions {
     pub first: u32, // the range
     pub end: u32,
@@ -19,7 +19,7 @@ pub struct ProgramOptions {
 }
 
 // What is known of the first spans of a row, clipped to a range.
-#[derive(Drop)]
+#[derive(Clone, Copy)]
 pub struct Order {
     pub left: bool, // one is not empty
     pub whole: bool, // none is empty

@@ -8,7 +8,7 @@ use texts::extent::Extent;
 pub const WORDS: usize = 4;
 
 // Frames from a start to an end, with the title of their track.
-#[derive(Drop)]
+#[derive(Clone, Copy)]
 pub struct Span {
     pub start: u32,
     pub end: u32,

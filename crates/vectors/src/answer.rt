@@ -4,7 +4,7 @@ use build_answer::answer::Answer;
 
 // Whether it is by document 01 alone; the number of the refusal, 0 for none; the lengths of header, sound and trailer, or the refusal's detail and zeros; and where
 // the file goes on, with header and trailer if nothing is refused.
-#[derive(Drop)]
+#[derive(Clone, Copy)]
 pub struct Wanted {
     pub alone: bool,
     pub number: u64,

@@ -13,7 +13,7 @@ const SOUND: usize = 0;
 const CRC: usize = 18;
 
 // Whether all is as recorded, and where the record ends.
-#[derive(Drop)]
+#[derive(Clone, Copy)]
 pub struct Outcome {
     pub agrees: bool,
     pub end: usize,

@@ -8,7 +8,7 @@ use single_words::word::{byte, is_set, word};
 pub const LENGTHS: usize = 5;
 
 // Whether it is DST; the sound, the seed of its bytes, the lengths of header and trailer, whether these are recorded, and where the windows begin.
-#[derive(Drop)]
+#[derive(Clone, Copy)]
 pub struct File {
     pub dst: bool,
     pub format: SoundFormat,

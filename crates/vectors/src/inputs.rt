@@ -7,7 +7,7 @@ use build_answer::answer::Answer;
 pub const WORDS: usize = 67;
 
 // Where the counts of the lists behind the pool stand.
-#[derive(Drop)]
+#[derive(Clone, Copy)]
 pub struct Lists {
     pub tracks: usize,
     pub markers: usize,

@@ -9,6 +9,8 @@
 //       trailer, and 0, or 1 with header and trailer, packed (without them only queries can be asked); how many windows there are, and the windows. A window is offset
 //       and length; the first position needed and one past the last; how many lengths, bytes of DST frames and bytes of content are lent; 1 or 0 as above; the number
 //       of the refusal, or 0 and the bytes that are filled, packed
+#![tactic(auto)]
+
 mod number; // number.rt: numbers of the file
 mod unpack; // unpack.rt: packed lists of numbers, and of bytes
 mod lists; // lists.rt: lists of words

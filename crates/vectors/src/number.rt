@@ -7,7 +7,7 @@ pub const PAST: usize = 0x4000_0000;
 const ROOM_FOR_SEVEN_BITS: u64 = 0x200_0000_0000_0000;
 
 // A number, and where the file goes on, PAST if it ends before.
-#[derive(Drop)]
+#[derive(Clone, Copy)]
 pub struct Number {
     pub value: u64,
     pub at: usize,

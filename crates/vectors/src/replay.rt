@@ -38,7 +38,7 @@ fn run(fd: i32, at: usize, counts: &mut [usize]) -> Outcome {
 }
 
 // Where the record is that is run next, and how many were.
-#[derive(Drop)]
+#[derive(Clone, Copy)]
 struct Progress {
     at: usize,
     done: usize,

@@ -3,7 +3,7 @@ use crate::number::take;
 
 // From the file's byte `offset` on so many bytes; the positions needed, the first and one past the last; how many lengths, bytes of DST frames and bytes of content
 // are lent; whether the answer is by document 01 alone; the number of the refusal, 0 for none; and where the file goes on.
-#[derive(Drop)]
+#[derive(Clone, Copy)]
 pub struct Window {
     pub offset: u64,
     pub room: u64,

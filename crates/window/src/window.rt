@@ -4,7 +4,7 @@ ghost use Rattle.std.specs.Prelude.{◌≡◌, ◌++◌, ◌≤◌, ◌-◌, min
 ghost use Rattle.window.specs.Window.{after, Wrote};
 
 // Bytes written so far, and bytes of what is read that are still to be skipped.
-#[derive(Drop)]
+#[derive(Clone, Copy)]
 pub struct Window {
     pub at: usize,
     pub skip: u64,

@@ -1,0 +1,6 @@
+-- `Cursor::close` meets its contract. Assumes nothing.
+use Rattle.chunk.proofs.SizeLastLaws.{closing}
+use Rattle.chunk.proofs.cursor.Cursor.close.Goals as goal
+
+pub returns : goal.returns
+returns c = closing c.be64-c.ensures c.skip-c.ensures c.pad.ensures
