@@ -62,6 +62,11 @@ class Places:
             o, n = old.replace(" ", "").lstrip("."), new.replace(" ", "").lstrip(".")
             self.args[o] = n
         self.params = about["params"]
+        # what a match's arm tells: (old step, old path) -> its name now
+        self.arms = {}
+        for arm in about["arms"]:
+            for new, step, path in (arm[2] if arm else []):
+                self.arms.setdefault(alike(step), {})[tuple(path)] = f"{arm[0]}.{new}"
         self.left = []
 
     def parent(self, place):
@@ -83,6 +88,9 @@ class Places:
         if alike(head) in ("requires", "type_inv", "utf8", "auto", "well_formed", "blocks", "lifetimes"):
             return None, ".".join([alike(head)] + rest)
         here = self.places.get(place)
+        for path, new in self.arms.get(alike(head), {}).items():
+            if path and tuple(rest[: len(path)]) == path:
+                return None, ".".join([new] + rest[len(path):])
         # a step's own name, here or, where it was left out, at a place above
         at = place
         while at is not None:
@@ -221,9 +229,29 @@ def function(crate, folder, about):
     loops, needs = about["loops"], about["needs"]
     said = []
     places = Places(about)
+    asked = [a[0] for a in about["asked_at"]]
     if len(words) != 2 * len(loops) + len(needs):
-        said.append(f"left: {path}: {len(words)} parts, and {len(loops)} loops and {len(needs)} goals")
-        return said
+        # other goals than then: those that have a name, by their name
+        flat, named = words[: 2 * len(loops)], []
+        by_need = {alike(o): (o, n, a) for (o, n), a in zip(needs, asked)}
+        lost = []
+        for word in words[2 * len(loops):]:
+            decl = by_name.get(word, "")
+            need = re.match(r"(?:abbrev |pub )*\S+ : tie\.Need-(\S+)", decl)
+            if need and alike(need.group(1)) in by_need:
+                named.append((word, by_need.pop(alike(need.group(1)))))
+            elif not PLAIN.match(word):
+                lost.append(word)
+        if lost:
+            said.append(f"left: {path}: {len(words)} parts, and {len(loops)} loops and {len(needs)} goals; lost {lost}")
+            return said
+        rest = [(f"(λ c. search rules)", v) for v in by_need.values()]
+        words = flat + [w for w, _ in named + rest]
+        needs = [[o, n] for _, (o, n, _) in named + rest]
+        asked = [a for _, (_, _, a) in named + rest]
+    whole = re.search(r"^unfolding .*(?:\n    .*)*$", last, re.M)
+    whole = whole.group(0) if whole else ""
+    table_of_goals = {}
     used = set()
     # invariants and measures
     invariants = []
@@ -265,10 +293,14 @@ def function(crate, folder, about):
     answers = []
     made = set()
     for k, (word, (old, new)) in enumerate(zip(words[2 * len(loops):], needs)):
-        place = about["asked_at"][k][0]
+        place = asked[k]
         used.add(word)
         if PLAIN.match(word):
+            if whole and re.match(r"returns|.*-(init|preserved|requires)", new) and "κs. tt" not in word and new not in made:
+                made.add(new)
+                answers.append((new, f"pub {new} : goal.{new}\n{whole}\n{new} c = search rules"))
             continue
+        table_of_goals[word] = new
         unfolding = ""
         decl = by_name.get(word)
         note = []
@@ -300,7 +332,7 @@ def function(crate, folder, about):
         if "c⟨" in turned:
             said.append(f"left: {path}: {new}: a place by itself")
         note = "".join(n + "\n" for n in note)
-        answers.append(f"{note}pub {new} : goal.{new}\n{unfolding}{new} c ={turned if turned.startswith((' ', chr(10))) else ' ' + turned}")
+        answers.append((new, f"{note}pub {new} : goal.{new}\n{unfolding}{new} c ={turned}"))
     helpers = []
     for name, note, decl in decls[:-1]:
         if name in used and (decl.startswith("abbrev") or " : tie." in decl.split("\n")[0]):
@@ -309,6 +341,23 @@ def function(crate, folder, about):
             said.append(f"left: {path}: the helper {name} names tie")
         helpers.append("\n".join(note + [decl]))
     said += [f"left: {path}: {l}" for l in dict.fromkeys(places.left)]
+    # an answer that another one cites stands above it, under its name now
+    cited = {w: n for w, n in table_of_goals.items() if w in by_name}
+    rename = lambda t: re.sub(r"(?<![\w.'₀-₉-])([A-Za-z_][\w'₀-₉-]*)(?![\w'₀-₉-])", lambda m: cited.get(m.group(1), m.group(1)), t)
+    turned = []
+    for n, t in answers:
+        sig, body = t.split(f"\n{n} c =", 1)
+        turned.append((n, sig + f"\n{n} c =" + rename(body)))
+    ordered, names = [], [n for n, _ in turned]
+    while turned:
+        for k, (n, t) in enumerate(turned):
+            body = t.split(f"{n} c =", 1)[1]
+            if not any(re.search(r"(?<![\w.'-])" + re.escape(m) + r"(?![\w'-])", body) for m, _ in turned if m != n):
+                break
+        else:
+            k = 0
+        ordered.append(turned.pop(k)[1])
+    answers = ordered
     uses_text = "\n".join(uses)
     title = "\n".join(head)
 
