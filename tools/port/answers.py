@@ -68,6 +68,7 @@ class Places:
             for new, step, path in (arm[2] if arm else []):
                 self.arms.setdefault(alike(step), {})[tuple(path)] = f"{arm[0]}.{new}"
         self.left = []
+        self.clauses = {p[0]: c.get("fields") for p, c in zip(about["places"], about["clauses"]) if c}
 
     def parent(self, place):
         return self.places.get(place, [None, None])[1]
@@ -108,6 +109,17 @@ class Places:
         return None, ".".join([head] + rest)
 
     def step(self, place, rest):
+        # a clause of several has a name now, where it was a place in nested pairs
+        fields = self.clauses.get(place[0])
+        if fields and len(fields) > 1 and rest and rest[0] in ("ensures", "requires"):
+            k, path = 0, rest[1:]
+            while path and path[0] == "1" and k < len(fields) - 1:
+                k, path = k + 1, path[1:]
+            if k < len(fields) - 1 and path and path[0] == "0":
+                path = path[1:]
+            elif k < len(fields) - 1:
+                return rest
+            return [rest[0], fields[k]] + path
         if len(rest) >= 2 and rest[0] == "new" and place[3] in self.params:
             names = self.params[place[3]]
             match = re.fullmatch(r"t(\d+)", rest[1])
@@ -225,7 +237,7 @@ def function(crate, folder, about):
     match = re.search(r"tie\.spec(.*)\)\s*$", last, re.S)
     if not match:
         return [f"left: {path}: no tie.spec at its end"]
-    words = split_top(match.group(1))
+    words = [re.sub(r"^\(\s+", "(", w) for w in split_top(match.group(1))]
     loops, needs = about["loops"], about["needs"]
     said = []
     places = Places(about)
@@ -315,6 +327,7 @@ def function(crate, folder, about):
             params, body = eq.group(1).split(), eq.group(2)
         else:
             lam = re.fullmatch(r"\(λ ([\wκ ]+)\. (.*)\)", word, re.S)
+            unfolding = whole + "\n" if whole else ""
             if lam:
                 params, body = lam.group(1).split(), " " + lam.group(2)
             else:
@@ -333,6 +346,29 @@ def function(crate, folder, about):
             said.append(f"left: {path}: {new}: a place by itself")
         note = "".join(n + "\n" for n in note)
         answers.append((new, f"{note}pub {new} : goal.{new}\n{unfolding}{new} c ={turned}"))
+    # a test of `!x` tells of x now
+    IFNOT = r"c\.if-not-[\w'-]+\.(?:true|false)"
+    fixed = []
+    for n, t in answers:
+        t = re.sub(r"\(not-(?:true|false) _ (" + IFNOT + r")\)", r"\1", t)
+        t = re.sub(r"not-(?:true|false) _ (" + IFNOT + r")", r"\1", t)
+        head_, body = t.split(f"{n} c =", 1)
+        was = any(re.search(r"not-(true|false)", d) for d in by_name.values())
+        if not was:
+            body2 = re.sub(IFNOT, lambda m: f"(ap not {m.group(0)})", body)
+            if body2 != body:
+                for u in ("use mathlib.Core.Path.{ap}", "use mathlib.Core.Bool.{not}"):
+                    mod, item = re.match(r"use (.*)\.\{(.*)\}", u).groups()
+                    same = [k for k, x in enumerate(uses) if x.startswith(f"use {mod}.{{")]
+                    if same:
+                        items = re.match(r"use .*\.\{(.*)\}", uses[same[0]]).group(1).split(", ")
+                        if item not in items:
+                            uses[same[0]] = f"use {mod}.{{{', '.join(items + [item])}}}"
+                    else:
+                        uses.append(u)
+            body = body2
+        fixed.append((n, head_ + f"{n} c =" + body))
+    answers = fixed
     helpers = []
     for name, note, decl in decls[:-1]:
         if name in used and (decl.startswith("abbrev") or " : tie." in decl.split("\n")[0]):
@@ -386,6 +422,9 @@ def function(crate, folder, about):
             return said + [f"left: {path}: {name} is there already"]
     if invariants:
         body = "\n\n".join(invariants)
+        for name, note, decl in reversed(decls[:-1]):
+            if decl.startswith("abbrev") and "tie." not in decl and re.search(r"(?<![\w.'-])" + re.escape(name) + r"(?![\w'-])", body):
+                body = "\n".join(note + [decl]) + "\n\n" + body
         with open(os.path.join(folder, "Invariants.antt"), "w", encoding="utf-8") as f:
             f.write(title + "\n" + needed(body) + f"\nuse {module}.Given as goal\n\n" + body + "\n")
     if answers:

@@ -1,6 +1,0 @@
--- `from_toc::exact` meets its contract: the largest range changes no span. Assumes nothing.
-use Rattle.tracks.proofs.OrderLaws.{exact-known}
-use Rattle.tracks.proofs.order.exact.Goals as goal
-
-pub returns : goal.returns
-returns c = rw (c.clipped_order-o.ensures.1.0, c.clipped_order-o.ensures.1.1.0) (exact-known c.args.tracks.now)
