@@ -377,6 +377,16 @@ def function(crate, folder, about):
             said.append(f"left: {path}: the helper {name} names tie")
         helpers.append("\n".join(note + [decl]))
     said += [f"left: {path}: {l}" for l in dict.fromkeys(places.left)]
+    def named(text):
+        for place in about["places"]:
+            fields = places.clauses.get(place[0])
+            if fields and len(fields) > 1 and place[2][1]:
+                text = re.sub(
+                    r"c\." + re.escape(place[2][1]) + r"\.((?:ensures|requires)(?:\.[01])+)(?![\w'-])",
+                    lambda m: f"c.{place[2][1]}." + ".".join(places.step(place, m.group(1).split("."))), text)
+        return text
+
+    answers = [(n, named(t)) for n, t in answers]
     # an answer that another one cites stands above it, under its name now
     cited = {w: n for w, n in table_of_goals.items() if w in by_name}
     rename = lambda t: re.sub(r"(?<![\w.'₀-₉-])([A-Za-z_][\w'₀-₉-]*)(?![\w'₀-₉-])", lambda m: cited.get(m.group(1), m.group(1)), t)

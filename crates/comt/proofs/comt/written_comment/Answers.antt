@@ -1,0 +1,19 @@
+-- `comt::written_comment` meets its contract: nothing of an empty text, else the comment. Assumes nothing.
+use mathlib.Core.List.{flat_map}
+use borrow.Author.Rules.{rules}
+use Rattle.chunk.specs.Chunk.{counts}
+use Rattle.chunk.proofs.AppendLaws.{none}
+use Rattle.chunk.proofs.ListLaws.{flat_map-one}
+use Rattle.comt.specs.Comment.{as_written, written_comment, comment_bytes}
+use Rattle.texts.proofs.TextLaws.{left_out, written}
+use mathlib.Core.Path.{ap}
+use mathlib.Core.Bool.{not}
+use Rattle.comt.proofs.comt.written_comment.Goals as goal
+
+pub returns-then-not-writes : goal.returns-then-not-writes
+unfolding written_comment as_written flat_map
+returns-then-not-writes c = rw (left_out c.args.options c.text_count-count.ensures c.writes.ensures (ap not c.if-not-writes.true)) (none (search rules) (search rules))
+
+pub returns : goal.returns
+unfolding written_comment as_written comment_bytes counts
+returns c = rw (written c.args.options c.text_count-count.ensures c.writes.ensures (ap not c.if-not-writes.false)) (rw (flat_map-one) (rw c.text_count-count.ensures at c.comment_bytes.ensures))
