@@ -1,23 +1,23 @@
 -- The goals that a check leaves.
 use mathlib.Core.Path.{ap₂, ◌∙◌}
-use mathlib.Core.Logic.{⊎_elim}
-use Prim.Native.Nat.{ℕ, ◌-◌, ◌≤◌, ◌<◌}
+use Prim.Native.Nat.{ℕ, ◌≤◌, ◌<◌}
 use native.Mathlib.Omega.{arith}
 use lib.ListN.{length, drop, drop_of_length-le}
 use Rattle.checksum.specs.Crc.{bytes_of, crc_of}
 use Rattle.checksum.proofs.CrcTable.{rule}
 use Rattle.checksum.proofs.RingLaws.{step}
 use Rattle.checksum.proofs.crc.crc.Goals as goal
+use Rattle.checksum.proofs.crc.crc.Goals.{then-n-ge-SHORT, else-n-ge-SHORT}
 
 pub words-r-requires : goal.words-r-requires
 words-r-requires c = (rule, omega arith)
 
 pub loop-i-init : goal.loop-i-init
 unfolding crc_of
-loop-i-init c = ⊎_elim
-    (λ w. (omega (arith, w.4), ap₂ (λ (r i : ℕ). bytes_of r (drop i c.args.content.now)) w.3 w.4 ∙ w.2.ensures))
-    (λ w. (omega (arith, w.2), ap₂ (λ (r i : ℕ). bytes_of r (drop i c.args.content.now)) w.1 w.2))
-    c.if-n-ge-SHORT.branch
+loop-i-init c = elim c.if-n-ge-SHORT.branch [
+  | then-n-ge-SHORT w ↦ (omega arith, ap₂ (λ (r i : ℕ). bytes_of r (drop i c.args.content.now)) w.r-is w.i-is ∙ w.words-r.ensures)
+  | else-n-ge-SHORT w ↦ (omega arith, ap₂ (λ (r i : ℕ). bytes_of r (drop i c.args.content.now)) w.r-is w.i-is)
+]
 
 pub next-r-requires : goal.next-r-requires
 next-r-requires c = rule

@@ -1,6 +1,6 @@
 -- The goals that a check leaves.
 use mathlib.Core.Path.{◌≡◌, refl, sym, ap, ◌∙◌}
-use Prim.Native.Nat.{ℕ, suc, ◌+◌, ◌*◌, ◌-◌, ◌^◌}
+use Prim.Native.Nat.{ℕ, suc, ◌+◌, ◌*◌, ◌^◌}
 use native.Mathlib.Omega.{arith}
 use Rattle.checksum.specs.Steps.{feed, after_units, units_from, ring_of}
 use Rattle.checksum.proofs.RingLaws.{ring_start, ring_round, halves-next, after_next}
@@ -22,7 +22,7 @@ loop-j-preserved c = let f = units_from c.args.units.now c.args.n in
       omega arith,
       c.push_unit-in-loop-j.ensures.0,
       λ k e.
-          ap (ring_of (2 ^ k) c.push_unit-in-loop-j.new.0) h
+          ap (ring_of (2 ^ k) c.push_unit-in-loop-j.new.ring) h
           ∙ halves-next k c.args.half (f c.loop-j.j) (ring_of (2 ^ k) c.loop-j.ring (c.loop-j.j * 2)) _ _ e (c.push_unit.ensures.1 k) (c.push_unit-in-loop-j.ensures.1 k)
           ∙ ap (λ (r : ℕ). feed (2 ^ suc k) r (f c.loop-j.j)) (c.loop-j.invariant.2 k e)
           ∙ after_next (2 ^ suc k) 0 f c.loop-j.j,
