@@ -140,6 +140,9 @@ def turn_paths(text, env, places):
             return match.group(0)
         kind, value = env[name]
         fields = [f for f in tail.split(".") if f]
+        after = text[match.end():match.end() + 2]
+        if not tail and (name == "at" or after == " ="):
+            return match.group(0)
         if kind == "text":
             return value + tail
         place, rest = places.walk(value, fields)
@@ -351,7 +354,7 @@ def function(crate, folder, about):
     fixed = []
     for n, t in answers:
         t = re.sub(r"\(not-(?:true|false) _ (" + IFNOT + r")\)", r"\1", t)
-        t = re.sub(r"not-(?:true|false) _ (" + IFNOT + r")", r"\1", t)
+        t = re.sub(r"not-(?:true|false) (?:_|\([^()]*\)|[\w.'-]+) (" + IFNOT + r")", r"\1", t)
         head_, body = t.split(f"{n} c =", 1)
         was = any(re.search(r"not-(true|false)", d) for d in by_name.values())
         if not was:

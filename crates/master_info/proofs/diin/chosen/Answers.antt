@@ -1,0 +1,11 @@
+-- `diin::chosen` meets its contract. Assumes nothing.
+use Rattle.master_info.specs.Diin.{chosen}
+use Rattle.master_info.proofs.diin.chosen.Goals as goal
+
+pub returns-then-not-info : goal.returns-then-not-info
+unfolding chosen
+returns-then-not-info c = rw (c.if-not-info.true)
+
+pub returns : goal.returns
+unfolding chosen
+returns c = rw (c.if-not-info.false) c.pick.ensures
