@@ -1,0 +1,8 @@
+-- `head::rate` meets its contract. Assumes nothing.
+use Rattle.chunk.proofs.AppendLaws.{◌then◌}
+use Rattle.dst.specs.Head.{rate}
+use Rattle.dst.proofs.head.rate.Goals as goal
+
+pub returns : goal.returns
+unfolding rate
+returns c = c.be32-c.ensures then c.be16.ensures
