@@ -354,9 +354,9 @@ def function(crate, folder, about):
     fixed = []
     for n, t in answers:
         t = re.sub(r"\(not-(?:true|false) _ (" + IFNOT + r")\)", r"\1", t)
-        t = re.sub(r"not-(?:true|false) (?:_|\([^()]*\)|[\w.'-]+) (" + IFNOT + r")", r"\1", t)
+        t = re.sub(r"not-(?:true|false) (?:_|\((?:[^()]|\((?:[^()]|\((?:[^()]|\([^()]*\))*\))*\))*\)|[\w.'-]+\.result) (" + IFNOT + r")", r"\1", t)
         head_, body = t.split(f"{n} c =", 1)
-        was = any(re.search(r"not-(true|false)", d) for d in by_name.values())
+        was = "not-true" in body or "not-false" in body or any(re.search(r"not-(true|false)", d) for d in by_name.values())
         if not was:
             body2 = re.sub(IFNOT, lambda m: f"(ap not {m.group(0)})", body)
             if body2 != body:

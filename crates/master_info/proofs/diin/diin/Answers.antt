@@ -21,7 +21,7 @@ pub returns-then-not-info-length : goal.returns-then-not-info-length
 unfolding diin has_diin
 returns-then-not-info-length c = let inside = bytes (info_chunks c.args.pool.now c.args.raw.now c.args.tracks.now c.args.custom.now c.args.info c.args.order) in
     let is : c.diin_data-measured.result.at ≡ moved 0 (length inside) = rw c.new.ensures at c.diin_data-measured.ensures.place in
-    let test = not-true (c.args.info.on && ((c.args.info.empty_info || not (eqb c.diin_data-measured.result.at 0)) && not (eqb c.diin_data-measured.result.at (2 ^ 64 - 1)))) c.if-not-info-length.true in
+    let test = c.if-not-info-length.true in
     let off = rw (is, told-by-size c.args.info.on c.args.info.empty_info (length inside)) at test in
     rw (off, bytes-stop) (none (search rules) (search rules))
 
@@ -29,9 +29,9 @@ pub returns : goal.returns
 unfolding diin has_diin
 returns c = let inside = bytes (info_chunks c.args.pool.now c.args.raw.now c.args.tracks.now c.args.custom.now c.args.info c.args.order) in
     let is : c.diin_data-measured.result.at ≡ moved 0 (length inside) = rw c.new.ensures at c.diin_data-measured.ensures.place in
-    let test = not-false (c.args.info.on && ((c.args.info.empty_info || not (eqb c.diin_data-measured.result.at 0)) && not (eqb c.diin_data-measured.result.at (2 ^ 64 - 1)))) c.if-not-info-length.false in
+    let test = c.if-not-info-length.false in
     let on = rw (is, told-by-size c.args.info.on c.args.info.empty_info (length inside)) at test in
-    let below = size_below info.on (c.args.info.empty_info || not (eqb (length inside) 0)) (length inside) (2 ^ 64 - 1) on in
+    let below = size_below c.args.info.on (c.args.info.empty_info || not (eqb (length inside) 0)) (length inside) (2 ^ 64 - 1) on in
     rw (on, bytes-node)
     (chunk-size-last (ascii "DIIN") (omega (arith, below))
     c.name-size_at.ensures c.data_start-from.ensures c.new-2.ensures c.diin_data-end.ensures c.close.ensures)
