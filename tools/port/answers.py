@@ -86,6 +86,7 @@ class Places:
             key = f"{head}.{rest[0]}" if rest else head
             new = self.args.get(key, key)
             return None, ".".join([new] + rest[1:])
+        rest = [alike(r) if alike(r) in ("type_inv", "well_formed") else r for r in rest]
         if alike(head) in ("requires", "type_inv", "utf8", "auto", "well_formed", "blocks", "lifetimes"):
             return None, ".".join([alike(head)] + rest)
         here = self.places.get(place)
