@@ -3,6 +3,7 @@ use crate::fill::fill;
 use crate::part::{find, part};
 use crate::{names, print};
 use refusal::verdict::Verdict;
+use std::io;
 
 pub const WORDS: usize = 67;
 
@@ -10,52 +11,55 @@ const LISTS: usize = 7;
 
 // A change: a name and its numbers, a space before each. The answer is where the lists end.
 fn change(
+    rt: &impl Print,
     table: &[u8],
     text: &[u8],
     words: &mut [u32],
     rows: &mut [u32],
     spans: &mut [usize; 14],
     end: usize,
-) -> usize {
+) -> io::Result<usize> {
     let space = find(text, 1, b' ');
     let name = part(text, 0, space);
     let numbers = part(text, space, text.len());
     let place = names::place(table, name);
     if place < WORDS {
         fill(words, place, numbers);
-        return end;
+        return Ok(end);
     }
     let list = place - WORDS;
     if list < LISTS {
         let next = fill(rows, end, numbers);
         spans[list * 2] = end;
         spans[list * 2 + 1] = next;
-        return next;
+        return Ok(next);
     }
-    print::text(b"no such name:");
-    print::text(name);
-    print::text(b"\n");
-    end
+    print::text(rt, b"no such name:")?;
+    print::text(rt, name)?;
+    print::text(rt, b"\n")?;
+    Ok(end)
 }
 
 // Changes, with a comma between them.
 pub(crate) fn changes(
+    rt: &impl Print,
     table: &[u8],
     text: &[u8],
     words: &mut [u32],
     rows: &mut [u32],
     spans: &mut [usize; 14],
-) {
+) -> io::Result<()> {
     let mut end = 0;
     let mut at = 0;
     while at < text.len() {
         let comma = find(text, at, b',');
-        end = change(table, part(text, at, comma), words, rows, spans, end);
+        end = change(rt, table, part(text, at, comma), words, rows, spans, end)?;
         if comma >= text.len() {
-            return;
+            return Ok(());
         }
         at = comma + 1;
     }
+    Ok(())
 }
 
 // The words of a list as bytes. The answer is how many.

@@ -10,10 +10,14 @@ mod case; // case.rt: what a case is lent, and the verdict on it
 mod table; // table.rt: the table, line by line
 mod print; // print.rt: a line of the answer
 
-use libc::STDIN_FILENO;
+use std::io;
+use std::io::Read;
 
-fn main() {
-    let mut text = io::large_buffer();
-    let n = io::read_full(STDIN_FILENO, &mut text);
-    table::all(&text[..n]);
+// How many bytes of the input are read.
+const MOST: u64 = 65_536;
+
+fn main(rt: HostRuntime) -> io::Result<()> {
+    let mut text = Vec::new(rt.alloc());
+    rt.reader().take(MOST).read_to_end(&mut text)?;
+    table::all(&rt, &text)
 }

@@ -12,7 +12,7 @@ fn on_line(line: &[u8], name: &[u8]) -> usize {
     }
     let end = find(line, 2, b' ');
     let rest = part(line, end, line.len());
-    if !check::same(part(rest, 0, find(rest, 1, b' ')), name) {
+    if part(rest, 0, find(rest, 1, b' ')) != name {
         return NONE;
     }
     number(part(line, 2, end)) as usize

@@ -1,20 +1,20 @@
-use libc::STDOUT_FILENO;
 use refusal::verdict::Verdict;
+use std::io;
 
-pub(crate) fn text(s: &[u8]) {
-    io::write_all(STDOUT_FILENO, s);
+pub(crate) fn text(rt: &impl Print, s: &[u8]) -> io::Result<()> {
+    rt.write_all(s)
 }
 
-fn number(n: u64) {
-    io::print_decimal(STDOUT_FILENO, n);
+fn number(rt: &impl Print, n: u64) -> io::Result<()> {
+    print!(rt; "{n}")
 }
 
 // A line: what is tried, and the number and the detail that are answered.
-pub(crate) fn line(label: &[u8], v: Verdict) {
-    text(label);
-    text(b": ");
-    number(v.number() as u64);
-    text(b" ");
-    number(v.detail());
-    text(b"\n");
+pub(crate) fn line(rt: &impl Print, label: &[u8], v: Verdict) -> io::Result<()> {
+    text(rt, label)?;
+    text(rt, b": ")?;
+    number(rt, v.number() as u64)?;
+    text(rt, b" ")?;
+    number(rt, v.detail())?;
+    text(rt, b"\n")
 }

@@ -6,6 +6,7 @@ use diin_texts::diin_text::Text;
 use master_info::diin::Info;
 use master_info::pick::{ArtistTitle, ArtistTitleSource};
 use prop_fields::start::Start;
+use std::io;
 use texts::extent::Extent;
 use texts::text::{TextOptions, TextRule};
 use tracks::order::ProgramOptions;
@@ -30,16 +31,23 @@ const TITLES: [u32; 9] = [0x4F, 0x6E, 0xE9, 0x65, 0x5A, 0x77, 0x65, 0x69, 0x20AC
 
 const RAW: [u8; 10] = *b"abcdefghij";
 
-fn diin(title: &[u8], tracks: &[u32], custom: &[u32], order: [InfoChunk; 4], info: Info) {
+fn diin(
+    rt: &impl Print,
+    title: &[u8],
+    tracks: &[u32],
+    custom: &[u32],
+    order: [InfoChunk; 4],
+    info: Info,
+) -> io::Result<()> {
     let mut out = [0xEEu8; 320];
     let pool = TITLES;
     let raw = RAW;
     let c = Cursor::new();
     let end = master_info::diin::diin(c, &mut out, &pool, &raw, tracks, custom, order, info);
-    print::text(b"DIIN, ");
-    print::text(title);
-    print::length(end.at);
-    print::front(&out, end.at);
+    print::text(rt, b"DIIN, ")?;
+    print::text(rt, title)?;
+    print::length(rt, end.at)?;
+    print::front(rt, &out, end.at)
 }
 
 fn given(start: u32, length: u32) -> Text {
@@ -150,7 +158,7 @@ fn reversed() -> [InfoChunk; 4] {
     ]
 }
 
-fn programs() {
+fn programs(rt: &impl Print) -> io::Result<()> {
     let touching = TOUCHING;
     let apart = APART;
     let out_of_order = OUT_OF_ORDER;
@@ -161,67 +169,81 @@ fn programs() {
     let second = program(50, 140, 2);
     let order = InfoChunk::table_order();
     diin(
+        rt,
         b"tracks 0 to 75 and 75 to 150",
         &touching,
         &none,
         order,
         only_markers(whole, Start::Absent, false),
-    );
+    )?;
     diin(
+        rt,
         b"frames 10 to 100 of tracks 0 to 40 and 60 to 120, start 75",
         &apart,
         &none,
         order,
         only_markers(part, Start::Given(75), false),
-    );
+    )?;
     diin(
+        rt,
         b"tracks out of order",
         &out_of_order,
         &none,
         order,
         only_markers(whole, Start::Absent, false),
-    );
+    )?;
     diin(
+        rt,
         b"source track with its title",
         &titled,
         &none,
         order,
         only_markers(second, Start::Given(0), false),
-    );
+    )
 }
 
-fn others() {
+fn others(rt: &impl Print) -> io::Result<()> {
     let order = InfoChunk::table_order();
     let titled = TITLED;
     let custom = GIVEN;
     let none = NO_ROWS;
     let whole = program(0, 150, 0);
     diin(
+        rt,
         b"custom markers, pads counted",
         &titled,
         &custom,
         order,
         only_markers(whole, Start::Absent, true),
-    );
+    )?;
     diin(
+        rt,
         b"EMID, artist and title, reversed",
         &titled,
         &none,
         reversed(),
         texts(),
-    );
-    diin(b"nothing in it", &none, &none, order, nothing(true, true));
+    )?;
     diin(
+        rt,
+        b"nothing in it",
+        &none,
+        &none,
+        order,
+        nothing(true, true),
+    )?;
+    diin(
+        rt,
         b"nothing in it, left out",
         &none,
         &none,
         order,
         nothing(true, false),
-    );
-    diin(b"info off", &none, &none, order, nothing(false, true));
+    )?;
+    diin(rt, b"info off", &none, &none, order, nothing(false, true))
 }
 
-pub(crate) fn cases() {
-    programs();
-    others();
+pub(crate) fn cases(rt: &impl Print) -> io::Result<()> {
+    programs(rt)?;
+    others(rt)
 }

@@ -1,6 +1,7 @@
 // Document 01's figures that have no star, of whole builds.
 use crate::print;
 use build_answer::answer::Answer;
+use std::io;
 
 // The words of a build, as crates/words/specs/Inputs.antt has them: frames 0 to 150 of 150 of a stereo DSD area, and the original's defaults.
 const PLAIN: [u32; 67] = [
@@ -26,15 +27,21 @@ fn build(
 }
 
 // The number of the refusal, 0 for none.
-fn answer(title: &[u8], words: &[u32], markers: &[u32], lengths: &[u32]) {
+fn answer(
+    rt: &impl Print,
+    title: &[u8],
+    words: &[u32],
+    markers: &[u32],
+    lengths: &[u32],
+) -> io::Result<()> {
     let mut header = [0xEEu8; 512];
     let mut trailer = [0xEEu8; 64];
     let none = NO_ROWS;
     let a = build(words, &none, markers, lengths, &mut header, &mut trailer);
-    print::text(title);
-    print::text(b": ");
-    print::number(a.number() as u64);
-    print::text(b"\n");
+    print::text(rt, title)?;
+    print::text(rt, b": ")?;
+    print::number(rt, a.number() as u64)?;
+    print::text(rt, b"\n")
 }
 
 fn byte(bytes: &[u8], at: usize) -> u8 {
@@ -58,34 +65,34 @@ fn frame(mark: &[u8]) -> u64 {
     hours * 270_000 + minutes * 4_500 + seconds * 75 + (high * 0x1_0000 + low) / 37_632
 }
 
-fn kind(high: u8, low: u8) {
+fn kind(rt: &impl Print, high: u8, low: u8) -> io::Result<()> {
     if high != 0 {
-        print::text(b" another kind ");
+        print::text(rt, b" another kind ")
     } else if low == 0 {
-        print::text(b" start ");
+        print::text(rt, b" start ")
     } else if low == 1 {
-        print::text(b" stop ");
+        print::text(rt, b" stop ")
     } else if low == 2 {
-        print::text(b" program start ");
+        print::text(rt, b" program start ")
     } else {
-        print::text(b" another kind ");
+        print::text(rt, b" another kind ")
     }
 }
 
 // The MARK that stands there in the header.
-fn marker(header: &[u8], from: usize, to: usize) {
+fn marker(rt: &impl Print, header: &[u8], from: usize, to: usize) -> io::Result<()> {
     if to > header.len() {
-        return;
+        return Ok(());
     }
     if from > to {
-        return;
+        return Ok(());
     }
     let mark = &header[from..to];
-    kind(byte(mark, 24), byte(mark, 25));
-    print::number(frame(mark));
+    kind(rt, byte(mark, 24), byte(mark, 25))?;
+    print::number(rt, frame(mark))
 }
 
-fn tracks() {
+fn tracks(rt: &impl Print) -> io::Result<()> {
     let mut words = PLAIN;
     words[23] = 1;
     let rows = [0u32, 75, 0, 0, 75, 75, 0, 0];
@@ -93,38 +100,38 @@ fn tracks() {
     let mut header = [0xEEu8; 512];
     let mut trailer = [0xEEu8; 64];
     let a = build(&words, &rows, &none, &none, &mut header, &mut trailer);
-    print::text(b"tracks 0 to 75 and 75 to 150 of playtime 150:");
+    print::text(rt, b"tracks 0 to 75 and 75 to 150 of playtime 150:")?;
     // Behind FRM8's front, FVER, PROP, DIIN's name and size, and an EMID of no bytes: 16, 16, 100, 12 and 12 bytes. A MARK has 34.
-    marker(&header, 156, 190);
-    marker(&header, 190, 224);
-    marker(&header, 224, 258);
-    marker(&header, 258, 292);
-    print::text(b"; the header has ");
+    marker(rt, &header, 156, 190)?;
+    marker(rt, &header, 190, 224)?;
+    marker(rt, &header, 224, 258)?;
+    marker(rt, &header, 258, 292)?;
+    print::text(rt, b"; the header has ")?;
     let lengths = a.values();
-    print::number(lengths[0]);
-    print::text(b" bytes\n");
+    print::number(rt, lengths[0])?;
+    print::text(rt, b" bytes\n")
 }
 
-fn markers() {
+fn markers(rt: &impl Print) -> io::Result<()> {
     let mut words = PLAIN;
     words[23] = 1;
     words[27] = 1;
     let none = NO_ROWS;
-    answer(b"a marker at end", &words, &[150, 0, 0, 0], &none);
-    answer(b"a marker at end + 1", &words, &[151, 0, 0, 0], &none);
+    answer(rt, b"a marker at end", &words, &[150, 0, 0, 0], &none)?;
+    answer(rt, b"a marker at end + 1", &words, &[151, 0, 0, 0], &none)
 }
 
-fn lengths() {
+fn lengths(rt: &impl Print) -> io::Result<()> {
     let mut words = PLAIN;
     words[0] = 1;
     words[5] = 1;
     let none = NO_ROWS;
-    answer(b"a frame of 65,536 bytes", &words, &none, &[65_536]);
-    answer(b"a frame of 0 bytes", &words, &none, &[0]);
-    answer(b"a frame of 65,537 bytes", &words, &none, &[65_537]);
+    answer(rt, b"a frame of 65,536 bytes", &words, &none, &[65_536])?;
+    answer(rt, b"a frame of 0 bytes", &words, &none, &[0])?;
+    answer(rt, b"a frame of 65,537 bytes", &words, &none, &[65_537])
 }
 
-fn channel_numbers() {
+fn channel_numbers(rt: &impl Print) -> io::Result<()> {
     let mut words = PLAIN;
     words[2] = 3;
     words[3] = 3;
@@ -134,12 +141,12 @@ fn channel_numbers() {
     words[9] = 5;
     words[10] = 1_000;
     let none = NO_ROWS;
-    answer(b"channel numbers 5, 5, 1000", &words, &none, &none);
+    answer(rt, b"channel numbers 5, 5, 1000", &words, &none, &none)
 }
 
-pub(crate) fn figures() {
-    tracks();
-    markers();
-    lengths();
-    channel_numbers();
+pub(crate) fn figures(rt: &impl Print) -> io::Result<()> {
+    tracks(rt)?;
+    markers(rt)?;
+    lengths(rt)?;
+    channel_numbers(rt)
 }

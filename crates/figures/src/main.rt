@@ -10,15 +10,17 @@ mod diin; // diin.rt: DIIN and its markers
 mod document; // document.rt: document 01's figures that have no star
 mod print; // print.rt: lines of text, numbers and bytes
 
-fn main() {
-    chunks::times();
-    chunks::sizes();
-    chunks::chunks();
-    chunks::short_buffers();
-    chunks::names();
-    text::cases();
-    sound::cases();
-    property::cases();
-    diin::cases();
-    document::figures();
+use std::io;
+
+fn main(rt: HostRuntime) -> io::Result<()> {
+    chunks::times(&rt)?;
+    chunks::sizes(&rt)?;
+    chunks::chunks(&rt)?;
+    chunks::short_buffers(&rt)?;
+    chunks::names(&rt)?;
+    text::cases(&rt)?;
+    sound::cases(&rt)?;
+    property::cases(&rt)?;
+    diin::cases(&rt)?;
+    document::figures(&rt)
 }

@@ -1,18 +1,18 @@
-use libc::STDOUT_FILENO;
+use std::io;
 
-pub(crate) fn text(s: &[u8]) {
-    io::write_all(STDOUT_FILENO, s);
+pub(crate) fn text(rt: &impl Print, s: &[u8]) -> io::Result<()> {
+    rt.write_all(s)
 }
 
-pub(crate) fn number(n: u64) {
-    io::print_decimal(STDOUT_FILENO, n);
+pub(crate) fn number(rt: &impl Print, n: u64) -> io::Result<()> {
+    print!(rt; "{n}")
 }
 
 // The length of a line of bytes, which follows.
-pub(crate) fn length(n: usize) {
-    text(b", ");
-    number(n as u64);
-    text(b" bytes:");
+pub(crate) fn length(rt: &impl Print, n: usize) -> io::Result<()> {
+    text(rt, b", ")?;
+    number(rt, n as u64)?;
+    text(rt, b" bytes:")
 }
 
 fn wide(b: u8) -> u64 {
@@ -20,29 +20,29 @@ fn wide(b: u8) -> u64 {
 }
 
 // A line of bytes, each as two hexadecimal digits.
-pub(crate) fn bytes(s: &[u8]) {
+pub(crate) fn bytes(rt: &impl Print, s: &[u8]) -> io::Result<()> {
     let mut i = 0;
     while i < s.len() {
-        text(b" ");
-        io::print_hex(STDOUT_FILENO, wide(s[i]), 2);
+        text(rt, b" ")?;
+        let b = wide(s[i]);
+        print!(rt; "{b:02x}")?;
         i += 1;
     }
-    text(b"\n");
+    text(rt, b"\n")
 }
 
 // A line of the first n bytes, or of all if there are fewer.
-pub(crate) fn front(s: &[u8], n: usize) {
+pub(crate) fn front(rt: &impl Print, s: &[u8], n: usize) -> io::Result<()> {
     if n <= s.len() {
-        bytes(&s[0..n]);
-        return;
+        return bytes(rt, &s[0..n]);
     }
-    bytes(s);
+    bytes(rt, s)
 }
 
-pub(crate) fn yes_or_no(yes: bool) {
+pub(crate) fn yes_or_no(rt: &impl Print, yes: bool) -> io::Result<()> {
     if yes {
-        text(b" yes\n");
+        text(rt, b" yes\n")
     } else {
-        text(b" no\n");
+        text(rt, b" no\n")
     }
 }

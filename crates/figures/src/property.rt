@@ -6,6 +6,7 @@ use prop::property::Properties;
 use prop_fields::compression::Sound;
 use prop_fields::layout::{ChannelNumbers, Layout};
 use prop_fields::start::Start;
+use std::io;
 
 // The original's defaults: no channel numbers, no start, LSCO unless the layout is unspecified.
 fn defaults(sound: Sound, layout: Layout, channels: u8, d1: bool) -> Properties {
@@ -55,46 +56,57 @@ fn reversed() -> [PropertyChunk; 5] {
     ]
 }
 
-fn property(title: &[u8], order: [PropertyChunk; 5], p: Properties) {
+fn property(
+    rt: &impl Print,
+    title: &[u8],
+    order: [PropertyChunk; 5],
+    p: Properties,
+) -> io::Result<()> {
     let mut out = [0xEEu8; 160];
     let c = Cursor::new();
     let end = prop::property::property(c, &mut out, order, p);
-    print::text(b"PROP, ");
-    print::text(title);
-    print::length(end.at);
-    print::front(&out, end.at);
+    print::text(rt, b"PROP, ")?;
+    print::text(rt, title)?;
+    print::length(rt, end.at)?;
+    print::front(rt, &out, end.at)
 }
 
-pub(crate) fn cases() {
+pub(crate) fn cases(rt: &impl Print) -> io::Result<()> {
     let order = PropertyChunk::table_order();
     property(
+        rt,
         b"stereo DSD",
         order,
         defaults(Sound::Dsd, Layout::Stereo, 2, false),
-    );
+    )?;
     property(
+        rt,
         b"stereo DSD, D1",
         order,
         defaults(Sound::Dsd, Layout::Stereo, 2, true),
-    );
+    )?;
     property(
+        rt,
         b"3/2 DST",
         order,
         defaults(Sound::Dst, Layout::ThreeTwo, 5, false),
-    );
+    )?;
     property(
+        rt,
         b"5.1 DST, D1",
         order,
         defaults(Sound::Dst, Layout::FivePointOne, 6, true),
-    );
+    )?;
     property(
+        rt,
         b"unspecified DSD",
         order,
         defaults(Sound::Dsd, Layout::Unspecified, 4, false),
-    );
+    )?;
     property(
+        rt,
         b"channels 7, 42 and 999, reversed, with start and LSCO",
         reversed(),
         numbered(),
-    );
+    )
 }

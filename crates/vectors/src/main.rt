@@ -29,12 +29,9 @@ mod record; // record.rt: a record of any kind
 mod replay; // replay.rt: all records
 mod print; // print.rt: lines of text and numbers
 
-fn main() {
-    let fd = os::open_read(b"answers");
-    if fd < 0 {
-        os::fail(b"answers");
-        return;
-    }
-    replay::all(fd);
-    libc::close(fd);
+use std::{fs, io};
+
+fn main(rt: HostRuntime) -> io::Result<()> {
+    let answers = fs::open(&rt, "answers")?;
+    replay::all(&rt, &answers)
 }

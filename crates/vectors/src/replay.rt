@@ -2,39 +2,43 @@
 use crate::builds::Outcome;
 use crate::number::{Number, PAST, plus, take};
 use crate::{counts, print, record};
+use std::fs::File;
+use std::io;
+use std::os::unix::fs::FileExt;
+
+// How many bytes of the file are held at a time.
+const HELD: usize = 65_536;
 
 // A place in the file as the system takes it.
-fn place(at: usize) -> i64 {
+fn place(at: usize) -> u64 {
     if at < PAST {
-        return at as i64;
+        return at as u64;
     }
-    PAST as i64
+    PAST as u64
 }
 
 // How many records there are, and where they begin.
-fn head(fd: i32) -> Number {
+fn head(answers: &File) -> io::Result<Number> {
     let mut bytes = [0u8; 10];
-    let got = libc::pread(fd, &mut bytes, 0);
-    let n = io::count(got, &bytes);
-    take(&bytes[..n], 0)
+    let n = answers.read_at(&mut bytes, 0)?;
+    Ok(take(&bytes[..n], 0))
 }
 
 // Whether the file has nothing at this place.
-fn ends(fd: i32, at: usize) -> bool {
+fn ends(answers: &File, at: usize) -> io::Result<bool> {
     let mut byte = [0u8; 1];
-    libc::pread(fd, &mut byte, place(at)) == 0
+    Ok(answers.read_at(&mut byte, place(at))? == 0)
 }
 
 // The record at this place. Where the next one stands.
-fn run(fd: i32, at: usize, counts: &mut [usize]) -> Outcome {
-    let mut room = io::large_buffer();
-    let got = libc::pread(fd, &mut room, place(at));
-    let n = io::count(got, &room);
+fn run(answers: &File, at: usize, counts: &mut [usize]) -> io::Result<Outcome> {
+    let mut room = [0u8; HELD];
+    let n = answers.read_at(&mut room, place(at))?;
     let o = record::run(&room[..n], counts);
-    Outcome {
+    Ok(Outcome {
         agrees: o.agrees,
         end: plus(at, o.end),
-    }
+    })
 }
 
 // Where the record is that is run next, and how many were.
@@ -45,39 +49,44 @@ struct Progress {
 }
 
 // One record more, if the file goes on.
-fn next(fd: i32, counts: &mut [usize], before: Progress) -> Progress {
+fn next(
+    rt: &impl Print,
+    answers: &File,
+    counts: &mut [usize],
+    before: Progress,
+) -> io::Result<Progress> {
     if before.at >= PAST {
-        return before;
+        return Ok(before);
     }
-    let o = run(fd, before.at, counts);
+    let o = run(answers, before.at, counts)?;
     let done = plus(before.done, 1);
     if !o.agrees {
-        print::differs(done);
+        print::differs(rt, done)?;
     }
-    Progress {
+    Ok(Progress {
         at: o.end,
         done: done,
-    }
+    })
 }
 
-fn records(fd: i32, counts: &mut [usize]) -> Progress {
-    let first = head(fd);
+fn records(rt: &impl Print, answers: &File, counts: &mut [usize]) -> io::Result<Progress> {
+    let first = head(answers)?;
     let mut p = Progress {
         at: first.at,
         done: 0,
     };
     let mut left = first.count();
     while left > 0 {
-        p = next(fd, counts, p);
+        p = next(rt, answers, counts, p)?;
         left -= 1;
     }
-    p
+    Ok(p)
 }
 
-pub(crate) fn all(fd: i32) {
+pub(crate) fn all(rt: &impl Print, answers: &File) -> io::Result<()> {
     let mut counts = [0usize; counts::ROOM];
-    let p = records(fd, &mut counts);
-    print::end(p.at, ends(fd, p.at));
-    print::totals(p.done, &counts);
-    print::refusals(&counts);
+    let p = records(rt, answers, &mut counts)?;
+    print::end(rt, p.at, ends(answers, p.at)?)?;
+    print::totals(rt, p.done, &counts)?;
+    print::refusals(rt, &counts)
 }
