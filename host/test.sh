@@ -136,16 +136,6 @@ c_compiler() {
     done
 }
 
-# Dates and windows, held against Python's own calendar.
-calendar() {
-    if command -v python3 >/dev/null && want gcc; then
-        try "tools/calendar: the dates and windows of Python's calendar" \
-            bounded 300 "$root/tools/calendar/run.sh" --library "$JANGQERUZ_LIBRARY"
-    else
-        skip "tools/calendar" "no$(missing python3 gcc)"
-    fi
-}
-
 reader() {
     if want "$2"; then try "$1 reads the files" "$3"; else skip "$1 reads the files" "no package $2"; fi
 }
@@ -197,7 +187,6 @@ else
     skip "tools/border" "no python3"
 fi
 c_compiler
-calendar
 man_pages
 if command -v cargo >/dev/null && want "${host_packages[@]}" gcc; then
     host

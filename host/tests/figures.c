@@ -1,5 +1,5 @@
 /* Document 01's figures of two files that are built by the defaults, from C: one frame of stereo DSD, and stereo DST
- * frames of 3 and 4 bytes; and dates of comments. host/test.sh compiles and runs it. */
+ * frames of 3 and 4 bytes. host/test.sh compiles and runs it. */
 #include "jangqeruz.h"
 
 #include <stdio.h>
@@ -42,32 +42,12 @@ static bool fitted(void)
     return true;
 }
 
-/* Dates: what is wrong with one, their order, and a window, its start counted in and its end counted out. */
-static bool dated(void)
-{
-    static const uint32_t start[5] = {2024, 2, 29, 0, 0}, last[5] = {2024, 12, 31, 23, 59}, end[5] = {2025, 1, 1, 0, 0};
-    static const uint32_t undated[5] = {0, 0, 0, 0, 0}, none[5] = {2023, 2, 29, 0, 0}, past[5] = {2024, 1, 1, 24, 0};
-    uint64_t falls[4], first, second, third, fourth, refused[1] = {77};
-
-    first = jangqeruz_falls_in(falls, start, end, start);
-    second = jangqeruz_falls_in(falls + 1, start, end, last);
-    third = jangqeruz_falls_in(falls + 2, start, end, end);
-    fourth = jangqeruz_falls_in(falls + 3, start, end, undated);
-    return !jangqeruz_date_fault(start) && !jangqeruz_note_fault(undated)
-           && jangqeruz_date_fault(undated) == JANGQERUZ_REFUSED_NO_SUCH_DATE
-           && jangqeruz_note_fault(none) == JANGQERUZ_REFUSED_NO_SUCH_DATE
-           && jangqeruz_note_fault(past) == JANGQERUZ_REFUSED_COMMENT_DATE && jangqeruz_earlier(last, end)
-           && !jangqeruz_earlier(end, last) && !jangqeruz_earlier(end, end) && !(first || second || third || fourth)
-           && falls[0] == 1 && falls[1] == 1 && falls[2] == 0 && falls[3] == 0
-           && jangqeruz_falls_in(refused, past, none, start) == JANGQERUZ_REFUSED_COMMENT_DATE && refused[0] == 0;
-}
-
 int main(void)
 {
     static const uint32_t lengths[] = {3, 4};
 
     return built(JANGQERUZ_SOUND_DSD, 1, NULL, 0, 144, 9552) && built(JANGQERUZ_SOUND_DST, 2, lengths, 2, 158, 226)
-                   && fitted() && dated()
+                   && fitted()
                ? 0
                : 1;
 }

@@ -20,7 +20,7 @@ HEAD = """\
  * - Nothing is kept after the call, nothing is allocated, there is no global state: any thread may call at any time.
  * - 32 KiB of stack are enough.
  * - Every input is answered: with bytes, or with the number of a refusal (enum jangqeruz_refusal; docs/REFUSALS.md),
- *   and then no buffer of bytes is altered. The build, the query, the read and the dates are proved so.
+ *   and then no buffer of bytes is altered. The build, the query and the read are proved to answer so.
  * - A switch is on if its word is not 0.
  */
 #ifndef JANGQERUZ_H

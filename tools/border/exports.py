@@ -40,7 +40,7 @@ class Subject:
 
 
 # the functions that a program calls come first, those of single chunks after them
-ORDER = ["defaults", "build", "verdict", "reads", "property", "diin", "text", "dates", "sound"]
+ORDER = ["defaults", "build", "verdict", "reads", "property", "diin", "text", "sound"]
 
 
 def sources():

@@ -6,17 +6,14 @@ def refusals(table):
 
 Made by tools/border/border.py from tools/border/refusals.toml and crates/*/specs; not edited by hand. `dff explain NUMBER` prints the same.
 
-Every build and every read ends with bytes or with one of these numbers, and a refusal writes nothing. They are tested in the order of their
-numbers, and the first that applies is the answer; one that has its place elsewhere says when it is tested. Numbers that are not here are no
-refusal's. "Definition" is the one that the proofs go by.
+Every build and every read ends with bytes or with one of these numbers, and a refusal writes nothing. They are tested in this order: the first
+that applies is the answer. "Definition" is the one that the proofs go by.
 """
     for r in table:
         out += f"\n## {r['number']}\n\n"
         out += f"**{r['words']}**\n\n"
         if "detail" in r:
             out += f"Detail: {r['detail']}.\n\n"
-        if "when" in r:
-            out += f"Tested: {r['when']}.\n\n"
         out += f"What to do: {r['remedy']}\n\n"
         told = "; ".join(f"`{name}` in [{path}](../{path})" for path, name in r["definitions"])
         out += f"Definition: {told}. In C `JANGQERUZ_REFUSED_{upper(r['name'])}`, in Rust `Refusal::{r['name']}`.\n"

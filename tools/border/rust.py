@@ -62,21 +62,21 @@ def string(text):
 
 
 def refusals(table):
-    out = "//! The refusals, by their numbers.\n//!\n"
+    out = "//! The refusals, in checking order.\n//!\n"
     out += MADE.format(of="tools/border/refusals.toml and the definitions in crates/*/specs") + "\n\n"
     out += "/// Why a build or a read is refused. Each has its number, the words of the rule, and what to do about it.\n"
     out += "#[derive(Clone, Copy, Debug, PartialEq, Eq, Hash)]\npub enum Refusal {\n"
     for r in table:
         out += doc(f"{r['number']}: {r['words']}", "    ") + f"    {r['name']}{'(u64)' if 'detail' in r else ''},\n"
     out += "}\n\n/// What is told of a refusal.\npub(crate) struct Told {\n    pub words: &'static str,\n    pub remedy: &'static str,\n"
-    out += "    pub definition: &'static str,\n    pub when: Option<&'static str>,\n}\n\n"
-    out += f"/// How many refusals there are. Their numbers have gaps.\npub const REFUSALS: usize = {len(table)};\n\nimpl Refusal {{\n"
+    out += "    pub definition: &'static str,\n}\n\n"
+    out += f"/// How many refusals there are: the numbers are 1 to this.\npub const REFUSALS: usize = {len(table)};\n\nimpl Refusal {{\n"
     out += "    /// The refusal of this number, which takes the detail if it has one; `None` for a number that is no refusal's.\n"
     out += "    pub fn new(number: u64, detail: u64) -> Option<Refusal> {\n        match number {\n"
     for r in table:
         out += f"            {r['number']} => Some(Refusal::{r['name']}{'(detail)' if 'detail' in r else ''}),\n"
     out += "            _ => None,\n        }\n    }\n\n"
-    out += "    /// All refusals, by their numbers; those that have a detail have 0.\n    pub fn all() -> [Refusal; REFUSALS] {\n        [\n"
+    out += "    /// All refusals, in checking order; those that have a detail have 0.\n    pub fn all() -> [Refusal; REFUSALS] {\n        [\n"
     out += "".join(f"            Refusal::{r['name']}{'(0)' if 'detail' in r else ''},\n" for r in table) + "        ]\n    }\n\n"
     out += "    /// Its number, from 1 on.\n    pub fn number(&self) -> u32 {\n        match self {\n"
     out += "".join(f"            Refusal::{r['name']}{'(_)' if 'detail' in r else ''} => {r['number']},\n" for r in table) + "        }\n    }\n\n"
@@ -87,7 +87,5 @@ def refusals(table):
     for r in table:
         definition = "; ".join(f"{path}: {name}" for path, name in r["definitions"])
         out += f"            Refusal::{r['name']}{'(_)' if 'detail' in r else ''} => Told {{\n"
-        out += f"                words: {string(r['words'])},\n                remedy: {string(r['remedy'])},\n                definition: {string(definition)},\n"
-        when = f"Some({string(r['when'])})" if "when" in r else "None"
-        out += f"                when: {when},\n            }},\n"
+        out += f"                words: {string(r['words'])},\n                remedy: {string(r['remedy'])},\n                definition: {string(definition)},\n            }},\n"
     return out + "        }\n    }\n}\n"

@@ -1,6 +1,5 @@
-"""The refusals as crates/*/specs define them. A refusal's definition is the one that hands its number to `refuseIf`, and the words of
-the papers (01, for later numbers 02) are quoted in the comments of specs/ as `7: "Channels aren't 1 to 6"`; whether they are the
-papers' own is for a reader to see, who has them."""
+"""The refusals as crates/*/specs define them. A refusal's definition is the one that hands its number to `refuseIf`, and 01's words are
+quoted in the comments of specs/ as `7: "Channels aren't 1 to 6"`; whether they are 01's own is for a reader to see, who has 01."""
 import re
 from pathlib import Path
 
@@ -51,7 +50,7 @@ def defined():
 
 
 def quoted():
-    """Of each number and file of definitions: the paper's words."""
+    """Of each number and file of definitions: 01's words."""
     found = {}
     for crate, path in files("specs/*.antt"):
         for comment in re.findall(r"^(?: *--.*\n)+", path.read_text(encoding="utf-8"), re.M):

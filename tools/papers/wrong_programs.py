@@ -4,15 +4,15 @@
     tools/papers/wrong_programs.py            writes them
     tools/papers/wrong_programs.py --check    only compares them
 
-The first lines of an edit are `refusal: N, M` (the refusals whose condition, number, place or detail it gets wrong; an edit that spoils
-all of them alike names none) and `says: ..` (what it does). Definitions and the papers' words are found by refusals.py.
+The first lines of an edit are `refusal: N, M` (the refusals of 01 whose condition, number, place or detail it gets wrong; an edit that spoils
+all of them alike names none) and `says: ..` (what it does). Definitions and 01's words are found by refusals.py.
 README's number of wrong programs is held too.
 Exit status: 0 all is well; 1 a table or the number differs, or a refusal lacks its words, its definition or a wrong program, or an edit says nothing."""
 import re, sys, textwrap
 from refusals import CRATES, ROOT, defined, files, quoted
 
 PAPER = ROOT / "docs" / "PROOFS.md"
-REFUSALS = [*range(1, 44), 46]  # 01's, and those that the requests of 02 have added
+REFUSALS = range(1, 44)
 
 
 def edits():
@@ -29,12 +29,12 @@ def linked(where):
 
 
 def refusals_table(all_edits, problems):
-    rows, found, quotes = ["| number | words of 01 or 02 | definition | wrong programs |", "|---|---|---|---|"], defined(), quoted()
+    rows, found, quotes = ["| number | 01's words | definition | wrong programs |", "|---|---|---|---|"], defined(), quoted()
     for number in REFUSALS:
         places = found.get(number, [])
         words = [quotes[number, where] for where, _ in places if (number, where) in quotes]
         wrong = [f"{crate}/{label}" for crate, label, numbers, _, _ in all_edits if number in numbers]
-        lacks = {"definition": places, "words of 01 or 02 in the file of its definition": words, "wrong program": wrong}
+        lacks = {"definition": places, "words of 01 in the file of its definition": words, "wrong program": wrong}
         problems += [f"refusal {number} has no {what}" for what, there in lacks.items() if not there]
         named = [f"`{name}` ({linked(where)})" for where, name in places]
         named += [f"more of it in {linked(where)}" for n, where in quotes if n == number and where not in [at for at, _ in places]]

@@ -16,7 +16,6 @@ THREE_CHANNELS = "channels 3;"
 TEXTS_ON = "info 1;artist_title on;"
 COMMENT = "comment 0 0 0 0 0 0 0 41 "
 EMPTY_COMMENT = "comment 0 0 0 0 0 0 0 . "
-NO_DATE = "comment 2024 2 30"
 
 # Where a text can be: the line that gives it, and what has it written; a comment always is.
 TRACK_TEXTS_ON = TEXTS_ON + "artist_title_source track;track 0 1;source_track 1"
@@ -262,7 +261,7 @@ def refusals_21_to_23(add):
     add("r23-empty-emid-ok", EDITED + "emid .")
 
 
-# Refusals 24 to 39 and 46: texts, channel numbers, PROP, DIIN, COMT, local order
+# Refusals 24 to 39: texts, channel numbers, PROP, DIIN, COMT, local order
 
 def refusal_24(add):
     for byte, fine in ((31, False), (32, True), (126, True), (127, False), (0, False), (255, False), (160, False)):
@@ -355,7 +354,7 @@ def refusals_32_and_33(add):
 def refusals_34_and_35(add):
     for place, name, limit in ((1, "month", 12), (2, "day", 31), (3, "hour", 23), (4, "minutes", 59)):
         for value in (limit, limit + 1, 255):
-            date = ["2024", "1", "1", "0", "0"]
+            date = ["0"] * 5
             date[place] = str(value)
             add(f"r34-{name}-{value}", f"comment {' '.join(date)} 0 0 41", accepted_if(value == limit, 34))
     add("r34-year-65535", "comment 65535 0 0 0 0 0 0 41")
@@ -373,50 +372,6 @@ def refusals_34_and_35(add):
     add("r3435-same", "comment 0 13 0 0 0 2 3 41", refused(34))
     add("r3435-ref-then-month", "comment 0 0 0 0 0 2 3 41;comment 0 13 0 0 0 0 0 41", refused(35))
     add("r3435-month-then-ref", "comment 0 13 0 0 0 0 0 41;comment 0 0 0 0 0 2 3 41", refused(34))
-
-
-def refusal_46(add):
-    """The Rust has no such refusal, and takes all of these; those named r46-no- are refused here."""
-    for date in (
-        "1 1 1", "1 12 31", "65535 12 31", "4 2 29", "400 2 29", "1900 2 28", "2000 2 29", "2023 2 28", "2024 2 29",
-        "2100 2 28", "65200 2 29", "65532 2 29", "2024 1 31", "2024 3 31", "2024 4 30", "2024 5 31", "2024 6 30",
-        "2024 7 31", "2024 8 31", "2024 9 30", "2024 10 31", "2024 11 30", "0 0 0", "1 0 0", "2024 0 0", "65535 0 0",
-    ):
-        add(f"r46-{date.replace(' ', '-')}", f"comment {date} 23 59 0 0 41")
-    for date in (
-        "0 1 1", "0 12 31", "0 2 29", "100 2 29", "1900 2 29", "2000 2 30", "2023 2 29", "2024 2 30", "2024 2 31",
-        "2100 2 29", "65500 2 29", "65535 2 29", "2024 4 31", "2024 6 31", "2024 9 31", "2024 11 31", "0 0 1", "0 1 0",
-        "2024 0 1", "2024 1 0", "2024 0 31", "2024 12 0",
-    ):
-        add(f"r46-no-{date.replace(' ', '-')}", f"comment {date} 0 0 0 0 41")
-    add("r46-no-empty-left-out", NO_DATE + " 0 0 0 0 .", "accepted 9552")
-    add("r46-no-empty-by-d2", "departures d2;" + NO_DATE + " 0 0 0 0 7f", "accepted 9552")
-    add("r46-no-second", COMMENT + ";" + NO_DATE + " 0 0 0 0 41")
-
-
-def order_around_46(add):
-    """Of one comment and of two. The Rust answers what comes after, if anything does."""
-    month = "comment 2024 13 1 0 0 0 0 41"
-    no_date = NO_DATE + " 0 0 0 0 41"
-    reference = "comment 2024 1 1 0 0 2 3 41"
-    add("r3446-same", NO_DATE + " 24 0 0 0 41", refused(34))
-    add("r3446-same-minutes", "comment 0 1 1 0 60 0 0 41", refused(34))
-    add("r3446-same-undated", "comment 2024 0 0 24 0 0 0 41", refused(34))
-    add("r3446-month-then-no-date", f"{month};{no_date}", refused(34))
-    add("r4634-no-date-then-month", f"{no_date};{month}", refused(34))
-    add("r4635-same", NO_DATE + " 0 0 2 3 41", refused(35))
-    add("r4635-same-empty-left-out", NO_DATE + " 0 0 2 3 .", refused(35))
-    add("r4635-no-date-then-reference", f"{no_date};{reference}", refused(35))
-    add("r3546-reference-then-no-date", f"{reference};{no_date}", refused(35))
-    add("r35-undated", "comment 2024 0 0 0 0 2 3 41", refused(35))
-    add("r4636-same", COMMENT + "65535;" + no_date, refused(36))
-    add("r4636-no-date-then-count", f"{no_date};" + COMMENT + "65535", refused(36))
-    add("r46-no-65535-then-empty", COMMENT + "65535;" + NO_DATE + " 0 0 0 0 .")
-    add("r3646-count-then-no-date", COMMENT + "65536;" + no_date, refused(36))
-    add("r3346-marker-text", "info 1;marker 0 4 0 1f;" + no_date, refused(33))
-    add("r4637-local-order", f"local_order prop,prop;{no_date}", refused(37))
-    add("r4638-local-order", f"local_order prop,sound;{no_date}", refused(38))
-    add("r4639-local-order", f"local_order comt,sound,prop;{no_date}", refused(39))
 
 
 def refusal_36(add):
@@ -842,8 +797,6 @@ GROUPS = (
     refusals_30_and_31,
     refusals_32_and_33,
     refusals_34_and_35,
-    refusal_46,
-    order_around_46,
     refusal_36,
     refusals_37_to_39,
     order_of_checks,

@@ -60,20 +60,6 @@ INTENDED = (
         "6: no time code holds this playtime; the panic is the harness's own and shows nothing of the Rust.",
     ),
     Intended(
-        "r46-no-",
-        r"refused 46 0",
-        r"accepted ",
-        26,
-        "46: the Rust takes a date that is none.",
-    ),
-    Intended(
-        "r463",
-        r"refused 46 0",
-        r"refused 3[4-9] 0 ",
-        9,
-        "46: without check 46 the Rust goes on to 35 and 36 of the comment, and to what follows it.",
-    ),
-    Intended(
         "r42-none-in-rust-many-positions",
         r"refused 6 0",
         r"accepted ",

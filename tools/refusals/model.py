@@ -1,7 +1,6 @@
 """Document 01's rules for a build, written from its text: the refusals 1 to 39 in their order, and the bytes. Of texts
 and tracks 01 has other limits in 1, and of tracks none in 17; here 1 is of a text of more than 1,048,576 values and of
-more than 65,535 tracks, and 17 also of more than 255 (document 02). 46 is document 02's: a comment meets 34, 46, 35 and
-36 in this order.
+more than 65,535 tracks, and 17 also of more than 255 (document 02).
 
 What the case language cannot say is not here: pools (2), values that are no scalars (3), lengths given for DSD (9),
 short buffers (40, 41). The speaker layout is worked out from the channels and the configuration, so it always has its
@@ -386,31 +385,9 @@ def diin_chunk(case, settings):
 
 # COMT
 
-def is_leap(year):
-    return year % 4 == 0 and (year % 100 != 0 or year % 400 == 0)
-
-
-def days_in(year, month):
-    if month == 2:
-        return 29 if is_leap(year) else 28
-    return 30 if month in (4, 6, 9, 11) else 31
-
-
-def is_date(comment):
-    """A Gregorian date, year 1 or later."""
-    if comment.year < 1 or not 1 <= comment.month <= 12:
-        return False
-    return 1 <= comment.day <= days_in(comment.year, comment.month)
-
-
-def is_undated(comment):
-    return comment.month == 0 and comment.day == 0
-
-
 def check_comment(case, comment):
-    """Refusals 34, 46 and 35; also of a comment that is then left out."""
+    """Refusals 34 and 35; also of a comment that is then left out."""
     refuse_if(comment.month > 12 or comment.day > 31 or comment.hour > 23 or comment.minutes > 59, 34)
-    refuse_if(not is_date(comment) and not is_undated(comment), 46)
     if comment.kind != 0:
         limits = {1: case.channels, 2: 2, 3: 4}
         refuse_if(comment.reference > limits[comment.kind], 35)
@@ -423,7 +400,7 @@ def comment_bytes(comment, text):
 
 
 def comt_chunk(case):
-    """Refusals 34 to 36 and 46, comment by comment, and COMT or None."""
+    """Refusals 34 to 36, comment by comment, and COMT or None."""
     written = []
     for comment in case.comments:
         check_comment(case, comment)

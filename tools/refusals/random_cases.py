@@ -5,7 +5,6 @@ Another order of the draws would change every case that follows. The limits are 
 model, so that a slip there cannot move the cases.
 """
 
-from calendar import monthrange
 from random import Random
 
 from cases import to_hex
@@ -20,14 +19,6 @@ CHARACTERS = PLAIN_CHARACTERS + ["\x7f", "\x1f", "é", "\xa0", "\x9f", "ÿ", "Ā
 
 def joined(values):
     return ",".join(map(str, values)) or "-"
-
-
-def real_date(year, month, day, *time):
-    """With the last day of the month for one past it, and without month and day where one is 0: an undated note. The
-    Rust takes any other date, too (46)."""
-    if 0 in (year, month, day):
-        return [year, 0, 0, *time]
-    return [year, month, min(day, monthrange(year, month)[1]), *time]
 
 
 class RandomCase:
@@ -251,7 +242,7 @@ class RandomCase:
         references = {1: self.channels, 2: 2, 3: 4}
         limits = [65_535, 12, 31, 23, 59]
         for _ in range(self.pick(0, 0, 0, 1, 2, 3)):
-            date = real_date(*(self.random.randint(0, limit) for limit in limits))
+            date = [self.random.randint(0, limit) for limit in limits]
             if self.faulty():
                 place = self.random.randint(1, 4)
                 date[place] = limits[place] + 1

@@ -165,8 +165,8 @@ mod tests {
         let folder = folder("unwritable");
         let area = Area::new(Kind::Dsd, 1, Layout::Unspecified, 3_000); // more pieces than are under way
         let file = File::build(&area, &Options::default(), &[], Numbered).unwrap();
-        let (mut out, mut err) = (Vec::new(), Vec::new());
-        let ui = Ui::new(true, false, &mut out, &mut err);
+        let mut out = Vec::new();
+        let ui = Ui::new(true, false, &mut out);
         for thread in [Builder::new(), Builder::new().stack_size(1 << 60)] {
             let mut output = Output::create(&folder.join("none"), false).unwrap().unwritable();
             let copied = copy(&file, &mut output, &ui.progress("none", file.len()), thread);
@@ -180,8 +180,8 @@ mod tests {
         let folder = folder("copy");
         let area = Area::new(Kind::Dsd, 1, Layout::Unspecified, 300);
         let file = File::build(&area, &Options::default(), &[], Numbered).unwrap();
-        let (mut out, mut err) = (Vec::new(), Vec::new());
-        let ui = Ui::new(true, false, &mut out, &mut err);
+        let mut out = Vec::new();
+        let ui = Ui::new(true, false, &mut out);
         // No system has the memory for the second one's stack.
         for (name, thread) in [("two", Builder::new()), ("one", Builder::new().stack_size(1 << 60))] {
             let mut output = Output::create(&folder.join(name), false).unwrap();

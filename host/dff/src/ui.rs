@@ -10,12 +10,11 @@ pub struct Ui<'a> {
     pub quiet: bool,
     pub force: bool,
     out: RefCell<&'a mut dyn Write>,
-    err: RefCell<&'a mut dyn Write>,
 }
 
 impl<'a> Ui<'a> {
-    pub fn new(quiet: bool, force: bool, out: &'a mut dyn Write, err: &'a mut dyn Write) -> Ui<'a> {
-        Ui { quiet, force, out: RefCell::new(out), err: RefCell::new(err) }
+    pub fn new(quiet: bool, force: bool, out: &'a mut dyn Write) -> Ui<'a> {
+        Ui { quiet, force, out: RefCell::new(out) }
     }
 
     /// The answer that was asked for, printed with `--quiet` too. A reader that has had enough is no fault.
@@ -26,15 +25,6 @@ impl<'a> Ui<'a> {
     /// A line about what was done; none with `--quiet`.
     pub fn say(&self, line: &str) -> Result<(), Fault> {
         if self.quiet { Ok(()) } else { self.print(&format!("{}\n", printable(line))) }
-    }
-
-    /// A line beside the answer, apart from it; none with `--quiet`. Where that fails there is nobody left to tell.
-    pub fn note(&self, line: &str) {
-        if !self.quiet {
-            let mut err = self.err.borrow_mut();
-            let _ = err.write_all(format!("dff: note: {}\n", printable(line)).as_bytes());
-            let _ = err.flush();
-        }
     }
 
     pub fn flush(&self) -> Result<(), Fault> {

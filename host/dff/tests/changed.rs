@@ -66,8 +66,8 @@ fn copied(folder: &Folder, pad: bool, at: u32, meddle: &(dyn Fn() + Sync)) -> (R
     let source = Meddled { raw, fetches: AtomicU32::new(0), at, meddle };
     let area = Area::new(Kind::Dsd, 2, Layout::Stereo, FRAMES);
     let file = File::build(&area, &Options::default(), &[], source).unwrap();
-    let (mut out, mut err) = (Vec::new(), Vec::new());
-    let ui = Ui::new(true, false, &mut out, &mut err);
+    let mut out = Vec::new();
+    let ui = Ui::new(true, false, &mut out);
     let path = folder.path("out/one.dff");
     let output = dff::output::Output::create(&path, false).unwrap();
     let result = dff::copy::write(&file, output, "one.dff", &ui);

@@ -307,19 +307,7 @@ fn comments_that_cannot_be_written() {
     let (status, err) = cut_of(&folder, &date, &[]);
     assert_eq!(status, 3);
     assert!(err.contains("edited.dff: cannot be written again: refused (34): ") && err.ends_with(hint), "{err}");
-    assert!(err.contains("\n  comment 1 has the date 2000-13-01 00:00; correct it in the file, or "), "{err}");
     assert_eq!(cut_of(&folder, &date, &["--drop-comments"]).0, 0);
-    // and one that the calendar does not have
-    let date = with(comments(&[(0, 1, b"fine"), (0, 0, b"ab")]));
-    let (status, err) = cut_of(&folder, &date, &[]);
-    assert_eq!(status, 3);
-    assert!(err.contains("edited.dff: cannot be written again: refused (46): ") && err.ends_with(hint), "{err}");
-    assert!(err.contains("\n  comment 2 has the date 2000-00-01 00:00; correct it in the file, or "), "{err}");
-    assert_eq!(cut_of(&folder, &date, &["--drop-comments"]).0, 0);
-    // an undated one is carried over
-    let mut undated = comments(&[(0, 0, b"ab")]);
-    undated.data[5] = 0;
-    assert_eq!(cut_of(&folder, &with(undated), &[]), (0, String::new()));
 }
 
 /// The file without comments, cut.

@@ -1,7 +1,5 @@
 //! What a file tells beside its sound: markers, comments, texts, chunks of the caller, and the chunks of an order.
 
-use crate::dates::Stamp;
-
 /// A marker, if markers are not made from tracks.
 #[derive(Clone, Debug, PartialEq, Eq)]
 pub struct Marker {
@@ -28,14 +26,14 @@ pub enum MarkerKind {
     Index,
 }
 
-/// A comment. Its date is one of the Gregorian calendar, or it is undated: month and day both 0.
+/// A comment.
 #[derive(Clone, Debug, PartialEq, Eq)]
 pub struct Comment {
-    /// 1 to 65,535; of an undated comment also 0.
+    /// Up to 65,535.
     pub year: u32,
-    /// 1 to 12; 0 together with the day.
+    /// Up to 12.
     pub month: u32,
-    /// 1 to the month's last; 0 together with the month.
+    /// Up to 31.
     pub day: u32,
     /// Up to 23.
     pub hour: u32,
@@ -48,14 +46,6 @@ pub struct Comment {
     pub reference: u32,
     /// Up to 1,048,576 characters, converted as all texts are.
     pub text: String,
-}
-
-impl Comment {
-    /// Its date and time.
-    pub fn stamp(&self) -> Stamp {
-        let Comment { year, month, day, hour, minutes, .. } = *self;
-        Stamp { year, month, day, hour, minutes }
-    }
 }
 
 /// What a comment is about.

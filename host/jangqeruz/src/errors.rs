@@ -87,40 +87,6 @@ impl fmt::Display for Measured {
     }
 }
 
-/// Why a date, or a question about a window of dates, is turned down.
-#[derive(Clone, Copy, Debug, PartialEq, Eq)]
-pub enum DateError {
-    /// The library refuses it: 34 or 46.
-    Refused(Refusal),
-    /// The library answered what it never should. The static library is not the one that this crate is made for.
-    Broken {
-        /// The refusal's number.
-        number: u64,
-        /// Its detail, or whether the comment falls in.
-        value: u64,
-    },
-}
-
-impl DateError {
-    /// Of the answer of a function on dates.
-    pub(crate) fn of(number: u64, value: u64) -> DateError {
-        Refusal::new(number, value).map_or(DateError::Broken { number, value }, DateError::Refused)
-    }
-}
-
-impl fmt::Display for DateError {
-    fn fmt(&self, f: &mut fmt::Formatter<'_>) -> fmt::Result {
-        match self {
-            DateError::Refused(refusal) => refusal.fmt(f),
-            DateError::Broken { number, value } => {
-                write!(f, "the library answered {number} with {value}, which it does not have")
-            }
-        }
-    }
-}
-
-impl Error for DateError {}
-
 /// Why a read gave nothing.
 #[derive(Debug)]
 pub enum ReadError {

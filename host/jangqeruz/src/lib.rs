@@ -41,8 +41,6 @@
 //! # }
 //! ```
 //!
-//! What the date of a comment may be is told by [`note_fault`], and whether it falls in a window of dates by [`falls_in`].
-//!
 //! Nothing here decides about the bytes of a file: words, texts and frames are handed to the library as they are. What
 //! is proved of it, and what that rests on, stands in the repository's documents. This crate itself is plain Rust, not
 //! proved. No input makes it panic.
@@ -52,7 +50,6 @@
 
 mod area;
 mod chunks;
-mod dates;
 mod errors;
 mod file;
 mod limit;
@@ -72,8 +69,7 @@ pub use chunks::{
     ArtistTitle, ArtistTitleSource, CallerChunk, Comment, CommentKind, IndexOffset, InfoChunk, LocalChunk, Marker,
     MarkerKind, PropertyChunk, text_bytes,
 };
-pub use dates::{Stamp, date_fault, earlier, falls_in, note_fault};
-pub use errors::{BuildError, DateError, Measured, ReadError};
+pub use errors::{BuildError, Measured, ReadError};
 pub use file::File;
 pub use limit::given_bytes;
 pub use options::Options;

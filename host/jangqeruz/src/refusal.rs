@@ -15,11 +15,6 @@ impl Refusal {
         self.told().remedy
     }
 
-    /// When it is tested, if not in the place of its number.
-    pub fn when(&self) -> Option<&'static str> {
-        self.told().when
-    }
-
     /// The rule as it is defined for the proofs: a file of the repository and a name in it, of some more than one.
     pub fn definition(&self) -> &'static str {
         self.told().definition

@@ -1,4 +1,4 @@
-//! The refusals, by their numbers.
+//! The refusals, in checking order.
 //!
 //! Made by tools/border/border.py from tools/border/refusals.toml and the definitions in crates/*/specs; not edited by hand.
 
@@ -94,9 +94,6 @@ pub enum Refusal {
     /// 43: Read: the lent lengths or byte counts aren't those of the needed positions (plain content for DSD or CRC,
     /// DST bytes for DST, otherwise empty).
     WronglyLent,
-    /// 46: A comment's date must be a Gregorian date with year 1 or later, or have month and day both zero, the sign
-    /// for an undated note.
-    NoSuchDate,
 }
 
 /// What is told of a refusal.
@@ -104,11 +101,10 @@ pub(crate) struct Told {
     pub words: &'static str,
     pub remedy: &'static str,
     pub definition: &'static str,
-    pub when: Option<&'static str>,
 }
 
-/// How many refusals there are. Their numbers have gaps.
-pub const REFUSALS: usize = 44;
+/// How many refusals there are: the numbers are 1 to this.
+pub const REFUSALS: usize = 43;
 
 impl Refusal {
     /// The refusal of this number, which takes the detail if it has one; `None` for a number that is no refusal's.
@@ -157,12 +153,11 @@ impl Refusal {
             41 => Some(Refusal::TrailerShort(detail)),
             42 => Some(Refusal::NoFile),
             43 => Some(Refusal::WronglyLent),
-            46 => Some(Refusal::NoSuchDate),
             _ => None,
         }
     }
 
-    /// All refusals, by their numbers; those that have a detail have 0.
+    /// All refusals, in checking order; those that have a detail have 0.
     pub fn all() -> [Refusal; REFUSALS] {
         [
             Refusal::Limits,
@@ -208,7 +203,6 @@ impl Refusal {
             Refusal::TrailerShort(0),
             Refusal::NoFile,
             Refusal::WronglyLent,
-            Refusal::NoSuchDate,
         ]
     }
 
@@ -258,7 +252,6 @@ impl Refusal {
             Refusal::TrailerShort(_) => 41,
             Refusal::NoFile => 42,
             Refusal::WronglyLent => 43,
-            Refusal::NoSuchDate => 46,
         }
     }
 
@@ -276,265 +269,216 @@ impl Refusal {
                 words: "A text (EMID and marker texts included) exceeds 1,048,576 values, or tracks exceed 65,535, caller chunks 255, custom markers 65,535, or one caller chunk 16,777,216 bytes.",
                 remedy: "Shorten the text or the chunk, or give fewer: at most 1,048,576 characters a text, 65,535 tracks, 65,535 custom markers, and 255 caller chunks of at most 16,777,216 bytes each.",
                 definition: "crates/rules/specs/Limits.antt: limitFaults",
-                when: None,
             },
             Refusal::OutsidePool => Told {
                 words: "A stretch runs outside its pool.",
                 remedy: "Give 67 words, whole rows, and for each text or data a start and a length that lie inside its pool.",
                 definition: "crates/rules/specs/Limits.antt: limitFaults; crates/words/specs/Border.antt: fieldFaults",
-                when: None,
             },
             Refusal::NoScalar => Told {
                 words: "A text value is no Unicode scalar.",
                 remedy: "Give texts as Unicode scalar values: 0 to 0xD7FF and 0xE000 to 0x10FFFF.",
                 definition: "crates/rules/specs/Limits.antt: limitFaults",
-                when: None,
             },
             Refusal::CallerName => Told {
                 words: "A caller name has a byte outside 0x20 to 0x7E or a space before a non-space (4, 5: the first at fault).",
                 remedy: "Name the caller chunk by four characters from space to ~, with spaces at the end only, as in \"ID3 \".",
                 definition: "crates/faults/specs/Caller.antt: nameFault",
-                when: None,
             },
             Refusal::CallerNameReserved => Told {
                 words: "A caller name is FRM8, FVER, PROP, \"DSD \", \"DST \", DSTI, COMT, DIIN or MANF.",
                 remedy: "Take another name for the caller chunk: these nine are the format's own.",
                 definition: "crates/faults/specs/Caller.antt: nameFault",
-                when: None,
             },
             Refusal::Playtime => Told {
                 words: "Playtime exceeds 1,151,999.",
                 remedy: "Give a playtime of at most 1,151,999 frames (04:15:59:74).",
                 definition: "crates/area_rules/specs/Area.antt: areaFault",
-                when: None,
             },
             Refusal::Channels => Told {
                 words: "Channels aren't 1 to 6.",
                 remedy: "Give 1 to 6 channels.",
                 definition: "crates/area_rules/specs/Area.antt: areaFault; crates/words/specs/Border.antt: fieldFaults",
-                when: None,
             },
             Refusal::LayoutChannels => Told {
                 words: "Stereo, ThreeTwo, FivePointOne don't have 2, 5, 6 channels.",
                 remedy: "Give the layout of so many channels (stereo 2, three-two 5, five-point-one 6), or the unspecified layout.",
                 definition: "crates/area_rules/specs/Area.antt: areaFault; crates/words/specs/Border.antt: fieldFaults",
-                when: None,
             },
             Refusal::LengthsCount => Told {
                 words: "DST: lengths don't number end − first, or first exceeds end; DSD: they don't number 0.",
                 remedy: "For DST give one length for each frame of a range that does not end before it begins; for DSD give none.",
                 definition: "crates/area_rules/specs/Area.antt: lengthsFault",
-                when: None,
             },
             Refusal::Length => Told {
                 words: "A length isn't 1 to 65,536.",
                 remedy: "Give DST frames of 1 to 65,536 bytes each.",
                 definition: "crates/area_rules/specs/Area.antt: lengthsFault",
-                when: None,
             },
             Refusal::Range => Told {
                 words: "First exceeds end, or end playtime.",
                 remedy: "Give a range inside the area: first is at most end, and end at most the playtime.",
                 definition: "crates/area_rules/specs/Area.antt: rangeFault",
-                when: None,
             },
             Refusal::RangeEmpty => Told {
                 words: "First equals end.",
                 remedy: "Give a range of at least one frame.",
                 definition: "crates/area_rules/specs/Area.antt: rangeFault",
-                when: None,
             },
             Refusal::SourceTrack => Told {
                 words: "No such source track (13 and 14 not for an edited master).",
                 remedy: "Give the number of one of the tracks, which count from 1 to 65,535 at most, or 0 for none.",
                 definition: "crates/area_rules/specs/Master.antt: sourceFault; crates/words/specs/Border.antt: fieldFaults",
-                when: None,
             },
             Refusal::SourceTrackOutside => Told {
                 words: "It doesn't overlap the range.",
                 remedy: "Give the track that the range is of, or a range that has frames of the source track.",
                 definition: "crates/area_rules/specs/Master.antt: sourceFault",
-                when: None,
             },
             Refusal::MasterRange => Told {
                 words: "Edited master (15 to 23): the range isn't 0 to playtime.",
                 remedy: "Give an edited master the whole area, from 0 to the playtime, or turn edited_master off.",
                 definition: "crates/area_rules/specs/Master.antt: masterAreaFault",
-                when: None,
             },
             Refusal::MasterLayout => Told {
                 words: "Unspecified layout.",
                 remedy: "Give an edited master a stereo, three-two or five-point-one layout, or turn edited_master off.",
                 definition: "crates/area_rules/specs/Master.antt: masterAreaFault",
-                when: None,
             },
             Refusal::MasterTracks => Told {
                 words: "No tracks, or more than 255.",
                 remedy: "Give an edited master 1 to 255 tracks: join some of them or make several files. Or turn edited_master off, which allows none and up to 65,535.",
                 definition: "crates/area_rules/specs/Master.antt: masterAreaFault",
-                when: None,
             },
             Refusal::TrackShort(_) => Told {
                 words: "A track is under 75 frames; detail, the first one's number.",
                 remedy: "Give an edited master tracks of at least 75 frames (a second); the detail is the number of the first that is shorter.",
                 definition: "crates/rows/specs/Durations.antt: shortTrack",
-                when: None,
             },
             Refusal::MasterSpans => Told {
                 words: "Spans empty, out of order or overlapping.",
                 remedy: "Give an edited master its tracks in order, none of them empty, each starting where the one before ends or later.",
                 definition: "crates/area_rules/specs/Master.antt: masterTracksFault",
-                when: None,
             },
             Refusal::MasterEnd => Told {
                 words: "The last ends after 1,151,999.",
                 remedy: "Give an edited master tracks that end at frame 1,151,999 at the latest.",
                 definition: "crates/area_rules/specs/Master.antt: masterTracksFault",
-                when: None,
             },
             Refusal::MasterMarkers => Told {
                 words: "Custom markers.",
                 remedy: "Leave out the custom markers: an edited master has those of its tracks. Or turn edited_master off.",
                 definition: "crates/area_rules/specs/Master.antt: masterOptionsFault",
-                when: None,
             },
             Refusal::MasterLoudspeakers => Told {
                 words: "LSCO off.",
                 remedy: "Turn loudspeaker_configuration on, or edited_master off.",
                 definition: "crates/area_rules/specs/Master.antt: masterOptionsFault",
-                when: None,
             },
             Refusal::MasterId => Told {
                 words: "EMID off.",
                 remedy: "Give an edited_master_id, which may be empty, or turn edited_master off.",
                 definition: "crates/area_rules/specs/Master.antt: masterOptionsFault",
-                when: None,
             },
             Refusal::Replacement => Told {
                 words: "Replacement byte outside 0x20 to 0x7E.",
                 remedy: "Give a replacement from space to ~, or none.",
                 definition: "crates/rules/specs/Property.antt: propertyFaults; crates/words/specs/Border.antt: fieldFaults",
-                when: None,
             },
             Refusal::ChannelNumbersCount => Told {
                 words: "Unspecified layout: given channel numbers don't number the channels.",
                 remedy: "Give one number for each channel, or no channel numbers.",
                 definition: "crates/rules/specs/Property.antt: numbersFault",
-                when: None,
             },
             Refusal::ChannelNumberLarge => Told {
                 words: "One exceeds 999 (26, 27: the first at fault).",
                 remedy: "Give channel numbers from 0 to 999.",
                 definition: "crates/channel_rules/specs/ChannelNumbers.antt: numberFault; crates/words/specs/Border.antt: fieldFaults",
-                when: None,
             },
             Refusal::ChannelNumberRepeated => Told {
                 words: "One repeats.",
                 remedy: "Give each channel a number of its own.",
                 definition: "crates/channel_rules/specs/ChannelNumbers.antt: numberFault",
-                when: None,
             },
             Refusal::PropertyOrder => Told {
                 words: "Property order isn't each name once.",
                 remedy: "Name FS, CHNL, CMPR, ABSS and LSCO in property_order, each once.",
                 definition: "crates/rules/specs/Property.antt: propertyFaults; crates/words/specs/Border.antt: nameFaults",
-                when: None,
             },
             Refusal::Start => Told {
                 words: "Start + positions exceeds 6,479,999.",
                 remedy: "Give an earlier start: with the frames of the range it is at most 6,479,999 (23:59:59:74).",
                 definition: "crates/rules/specs/Property.antt: startFault",
-                when: None,
             },
             Refusal::InfoOrder => Told {
                 words: "Info on (30 to 33): info order isn't each name once.",
                 remedy: "Name EMID, MARK, DIAR and DITI in info_order, each once; as words, artist_title and artist_title_source are 0 to 2.",
                 definition: "crates/rules/specs/Info.antt: infoFaults; crates/words/specs/Border.antt: nameFaults",
-                when: None,
             },
             Refusal::EditedMasterId => Told {
                 words: "EMID is on with a byte outside 0x20 to 0x7E.",
                 remedy: "Give an edited_master_id of characters from space to ~.",
                 definition: "crates/rules/specs/Info.antt: infoFaults",
-                when: None,
             },
             Refusal::MarkerOutside => Told {
                 words: "A marker before first or after end (32, 33: the first at fault).",
                 remedy: "Put each marker at a frame from the range's first to its end, and give it one of the four kinds.",
                 definition: "crates/faults/specs/Marks.antt: markerFault",
-                when: None,
             },
             Refusal::MarkerText => Told {
                 words: "Its text has a byte outside 0x20 to 0x7E and, under D2, also outside 0xA0 to 0xFF.",
                 remedy: "Give marker texts of characters from space to ~, with d2 also U+00A0 to U+00FF.",
                 definition: "crates/faults/specs/Marks.antt: markerFault",
-                when: None,
             },
             Refusal::CommentDate => Told {
                 words: "Comment month over 12, day 31, hour 23 or minutes 59 (34 to 36: the first at fault).",
-                remedy: "Give dates and times of a year up to 65,535, a month up to 12, a day up to 31, an hour up to 23 and minutes up to 59.",
-                definition: "crates/calendar/specs/Date.antt: stampFault",
-                when: None,
+                remedy: "Give each comment a date and a time: year up to 65,535, month up to 12, day up to 31, hour up to 23, minutes up to 59.",
+                definition: "crates/comment_faults/specs/Comments.antt: faultOf",
             },
             Refusal::CommentReference => Told {
                 words: "Reference over the channels, 2 or 4 for kinds 1, 2, 3.",
                 remedy: "Give a reference up to the number of channels for a channel, 2 for a sound source, 4 for the file's history.",
                 definition: "crates/comment_faults/specs/Comments.antt: faultOf",
-                when: None,
             },
             Refusal::CommentsCount => Told {
                 words: "A 65,536th comment would be written.",
                 remedy: "Give at most 65,535 comments that are written.",
                 definition: "crates/comment_faults/specs/Comments.antt: faultOf",
-                when: None,
             },
             Refusal::LocalOrderRepeats => Told {
                 words: "Local order repeats.",
                 remedy: "Name each of PROP, COMT, DIIN, SOUND and DSTI once at most in local_order.",
                 definition: "crates/local_rules/specs/Local.antt: localFaults; crates/words/specs/Border.antt: nameFaults",
-                when: None,
             },
             Refusal::LocalOrderLacks => Told {
                 words: "It lacks a chunk to be written.",
                 remedy: "Name in local_order every chunk that is written: PROP and SOUND, for DST with an index DSTI, with comments COMT, with edited_master_info DIIN.",
                 definition: "crates/local_rules/specs/Local.antt: localFaults",
-                when: None,
             },
             Refusal::PropertyAfterSound => Told {
                 words: "PROP after sound.",
                 remedy: "Name PROP before SOUND in local_order.",
                 definition: "crates/local_rules/specs/Local.antt: localFaults",
-                when: None,
             },
             Refusal::HeaderShort(_) => Told {
                 words: "Header buffer short; detail, the length needed.",
                 remedy: "Build again with a header buffer of as many bytes as the detail says.",
                 definition: "crates/room_rules/specs/Room.antt: roomFaults",
-                when: None,
             },
             Refusal::TrailerShort(_) => Told {
                 words: "Trailer buffer short; likewise.",
                 remedy: "Build again with a trailer buffer of as many bytes as the detail says.",
                 definition: "crates/room_rules/specs/Room.antt: roomFaults",
-                when: None,
             },
             Refusal::NoFile => Told {
                 words: "Read or query: channels or a length as in 7 or 10, over 1,151,999 positions, or header or trailer over 2^40 bytes.",
                 remedy: "Tell a query or read of the file as it was built: its channels, its lengths or positions, its header and its trailer.",
                 definition: "crates/read_rules/specs/Fault.antt: formatFault",
-                when: None,
             },
             Refusal::WronglyLent => Told {
                 words: "Read: the lent lengths or byte counts aren't those of the needed positions (plain content for DSD or CRC, DST bytes for DST, otherwise empty).",
                 remedy: "Lend a read just the frames that its query names: their lengths and DST bytes for DST, their plain contents for DSD or with CRCs.",
                 definition: "crates/file_read/specs/Read.antt: lentFault",
-                when: None,
-            },
-            Refusal::NoSuchDate => Told {
-                words: "A comment's date must be a Gregorian date with year 1 or later, or have month and day both zero, the sign for an undated note.",
-                remedy: "Give a day that its month has, 29 February in leap years only, and a year from 1 on; or month 0 and day 0 for an undated comment. A window's start and end are dates.",
-                definition: "crates/calendar/specs/Date.antt: stampFault",
-                when: Some("of each comment after 34 and before 35, also of one that is left out as empty; of each date of a window after 34"),
             },
         }
     }

@@ -3,7 +3,6 @@
 
 pub mod builds;
 pub mod checks;
-pub mod dates;
 #[rustfmt::skip]
 mod exports;
 pub mod markers;

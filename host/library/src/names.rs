@@ -212,15 +212,10 @@ pub const MARKER_ROW_TEXT_LENGTH: usize = 3;
 // The places in a row of a comment.
 /// Words a row.
 pub const COMMENT_ROW_WORDS: usize = 9;
-/// 1 to 65,535; 0 only if undated.
 pub const COMMENT_ROW_YEAR: usize = 0;
-/// 1 to 12; month and day both 0: undated.
 pub const COMMENT_ROW_MONTH: usize = 1;
-/// 1 to the last of its month, by the Gregorian calendar.
 pub const COMMENT_ROW_DAY: usize = 2;
-/// 0 to 23.
 pub const COMMENT_ROW_HOUR: usize = 3;
-/// 0 to 59.
 pub const COMMENT_ROW_MINUTES: usize = 4;
 /// Its kind.
 pub const COMMENT_ROW_KIND: usize = 5;

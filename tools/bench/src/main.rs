@@ -83,7 +83,6 @@ fn run(pool: &Pool, only: Option<Table>) -> Result<(), String> {
         Texts::new("texts", short, 20, 10, 200),
         Texts::new("long comments", short, 20, 8, 60_000),
         Texts::new("session notes", short, 20, 4, 1 << 20),
-        Texts::new("many comments", short, 20, 65_535, 20),
         Texts::new("2,000 tracks", long, 2_000, 0, 0),
     ];
     let with_texts = texts.iter().map(|texts| {

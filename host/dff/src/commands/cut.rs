@@ -4,7 +4,6 @@
 use crate::carry::{Carried, DROP_COMMENTS, DROP_CRCS, DROP_MARKERS, Dropped, carry};
 use crate::cli::CutArgs;
 use crate::commands::faults::Faults;
-use crate::dates;
 use crate::limit::{check_given, raise};
 use crate::output::{Output, check_free, check_named, check_not_read};
 use crate::sources::Sound;
@@ -114,9 +113,7 @@ fn what_helps(refusal: Refusal, area: &Area, options: &Options, lengths: &[u32])
         }
     };
     if helps(true, false) {
-        let date = dates::first_refused(&options.comments).filter(|_| is_of_dates(refusal));
-        let correct = |date| format!("\n  {date}; correct it in the file, or leave it out with the others:");
-        date.map_or(String::new(), correct) + DROP_COMMENTS
+        DROP_COMMENTS.into()
     } else if helps(false, true) {
         let count = options.custom_markers.as_ref().map_or(0, Vec::len);
         let shorter = match refusal {
@@ -131,10 +128,6 @@ fn what_helps(refusal: Refusal, area: &Area, options: &Options, lengths: &[u32])
     } else {
         format!("\n  dff explain {} tells more of it", refusal.number())
     }
-}
-
-fn is_of_dates(refusal: Refusal) -> bool {
-    matches!(refusal, Refusal::CommentDate | Refusal::NoSuchDate)
 }
 
 /// The frames that are asked for.

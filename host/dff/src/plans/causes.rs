@@ -1,6 +1,5 @@
-//! What a refusal is about, where its words leave open which track, comment or count it is. Nothing is judged here.
+//! What a refusal is about, where its words leave open which track or count it is. Nothing is judged here.
 
-use crate::dates::first_refused;
 use crate::sources::open::MOST_READ;
 use crate::times::counted;
 use jangqeruz::{Area, BuildError, CallerChunk, Options, Refusal, Track};
@@ -29,7 +28,6 @@ pub fn cause(error: &BuildError, area: &Area, options: &Options, frames: u32) ->
             let track = number.checked_sub(1).and_then(|place| tracks.get(usize::try_from(place).ok()?))?;
             Some(format!("track {number} has {}", counted(track.duration)))
         }
-        Refusal::CommentDate | Refusal::NoSuchDate => first_refused(&options.comments),
         Refusal::MasterSpans => out_of_order(tracks),
         Refusal::MasterEnd => tracks.last().map(|track| format!("track {} ends at {}", tracks.len(), ends(track))),
         _ => None,

@@ -136,14 +136,6 @@ fn marker(random: &mut Draw, area: &Area, latin: bool) -> Marker {
     }
 }
 
-/// Year, month and day; some are undated.
-fn date(random: &mut Draw) -> (u32, u32, u32) {
-    match random.chance(20) {
-        true => (random.range(0..65_536), 0, 0),
-        false => (random.range(1..65_536), random.range(1..13), random.range(1..29)),
-    }
-}
-
 fn comment(random: &mut Draw, area: &Area) -> Comment {
     let kinds = [CommentKind::General, CommentKind::Channel, CommentKind::SoundSource, CommentKind::FileHistory];
     let kind = random.pick(&kinds);
@@ -153,11 +145,10 @@ fn comment(random: &mut Draw, area: &Area) -> Comment {
         CommentKind::SoundSource => 2,
         CommentKind::FileHistory => 4,
     };
-    let (year, month, day) = date(random);
     Comment {
-        year,
-        month,
-        day,
+        year: random.range(0..65_536),
+        month: random.range(0..13),
+        day: random.range(0..32),
         hour: random.range(0..24),
         minutes: random.range(0..60),
         kind,

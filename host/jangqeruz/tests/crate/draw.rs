@@ -90,22 +90,12 @@ fn marker(random: &mut Random, area: &Area) -> Marker {
     }
 }
 
-/// Year, month and day: mostly a date, some undated, some of no calendar.
-fn date(random: &mut Random) -> (u32, u32, u32) {
-    match random.below(20) {
-        0 => (number(random, 65_536), number(random, 13), number(random, 32)),
-        1..5 => (number(random, 65_536), 0, 0),
-        _ => (1 + random.below(65_535), 1 + random.below(12), 1 + random.below(28)),
-    }
-}
-
 fn comment(random: &mut Random) -> Comment {
     let kinds = [CommentKind::General, CommentKind::Channel, CommentKind::SoundSource, CommentKind::FileHistory];
-    let (year, month, day) = date(random);
     Comment {
-        year,
-        month,
-        day,
+        year: number(random, 65_536),
+        month: number(random, 13),
+        day: number(random, 32),
         hour: number(random, 24),
         minutes: number(random, 60),
         kind: random.pick(&kinds),

@@ -1,6 +1,5 @@
 //! Tests of the crate over the compiled library.
 
-mod dates;
 mod draw;
 mod draws;
 mod figures;

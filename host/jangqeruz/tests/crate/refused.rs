@@ -235,11 +235,6 @@ fn comments() {
     refused(34, plain(), with(|c| c.day = 32));
     refused(34, plain(), with(|c| c.hour = 24));
     refused(34, plain(), with(|c| c.minutes = u32::MAX));
-    refused(46, plain(), with(|c| (c.month, c.day) = (2, 30)));
-    refused(46, plain(), with(|c| c.month = 0));
-    refused(46, plain(), with(|c| c.day = 0));
-    refused(46, plain(), with(|c| c.year = 0));
-    accepted(plain(), with(|c| (c.month, c.day) = (0, 0)));
     refused(35, plain(), with(|c| c.reference = 3));
     refused(35, plain(), with(|c| (c.kind, c.reference) = (CommentKind::SoundSource, 3)));
     refused(35, plain(), with(|c| (c.kind, c.reference) = (CommentKind::FileHistory, 5)));

@@ -190,7 +190,7 @@ impl fmt::Display for Counts {
             ("built", built),
             ("refused 40, the header's buffer short", header_short),
             ("refused 41, the trailer's", trailer_short),
-            ("refused 1 to 39 or 46", refused),
+            ("refused 1 to 39", refused),
             ("bytes of headers and trailers compared", compared),
             ("bytes that had to stay", stayed),
         ] {

@@ -1,6 +1,7 @@
 //! Drawing cases: mostly accepted builds, the others as the checks draw them.
 
 use library::checks::{COMT, DIIN, DSTI, PROP, SOUND};
+use library::text::{D2, REMOVE};
 
 use super::Case;
 use crate::checks::draw::{self as checks, Wishes};
@@ -98,7 +99,16 @@ fn is_unwritten(build: &Build, name: u8) -> bool {
             let markers = if info.custom_markers { !build.of.custom.is_empty() } else { !build.of.tracks.is_empty() };
             !info.on || info.emid[0] == 0 && !info.artist_title && !info.empty_info && !markers
         }
-        COMT => !build.comments.iter().any(|comments| build.writes(&comments.text)),
+        COMT => {
+            let rule = info.conversion.rule;
+            let passes = |value: &u32| match rule {
+                REMOVE => (0x20..=0x7E).contains(value),
+                _ if rule >= D2 => matches!(value, 0x20..=0x7E | 0xA0..=0xFF),
+                _ => true,
+            };
+            let written = |text: &[u32]| info.switches.empty_text || text.iter().any(passes);
+            !build.comments.iter().any(|comments| written(&comments.text))
+        }
         _ => false,
     }
 }

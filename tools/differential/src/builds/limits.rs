@@ -2,12 +2,11 @@
 
 use library::checks::{COMT, DIIN, DSTI, PROP, SOUND};
 use library::markers::{ChannelNumbers, FIVE_POINT_ONE, STEREO, THREE_TWO};
-use library::text::{D2, REMOVE, REPLACE};
+use library::text::{D2, REPLACE};
 
 use super::fixed::{bytes, set_layout, set_order, set_range, set_start, with, DSD, DST};
 use super::Case;
-use crate::checks::dates::{Date, LONG, SHORT};
-use crate::checks::fixed::{caller, comments, dated, marker, plain, track, Context, Fixed, Part, NONE, TEXTS};
+use crate::checks::fixed::{caller, comments, marker, plain, track, Context, Fixed, Part, NONE, TEXTS};
 use crate::checks::{Beyond, Case as Build, Comments, Place, LONGEST_TEXT};
 use crate::markers::draw::LAST_FRAME;
 use crate::markers::TrackOf;
@@ -278,23 +277,14 @@ fn info(limits: &mut Limits) {
 /// 34 to 36.
 fn comment_limits(limits: &mut Limits) {
     for (place, most) in [(1, 12), (2, 31), (3, 23), (4, 59)] {
-        let late = |value| {
-            move |build: &mut Build| {
+        for (value, number) in [(0, 0), (most, 0), (most + 1, 34), (255, 34)] {
+            limits.both(DSD, number, |build| {
                 build.comments = vec![comments(1, [0, 0], 1), comments(1, [0, 0], 1)];
                 build.comments[1].date[place] = value;
-            }
-        };
-        for (value, number) in [(most, 0), (most + 1, 34), (255, 34)] {
-            limits.both(DSD, number, late(value));
-        }
-        match place {
-            // A month without a day, or a day without a month.
-            1 | 2 => limits.ours(DSD, 46, late(0)),
-            _ => limits.both(DSD, 0, late(0)),
+            });
         }
         limits.ours(DSD, 34, |build| build.beyond.push(Beyond::Date(place, 256)));
     }
-    limits.ours(DSD, 34, |build| build.beyond.push(Beyond::Date(0, 65_536)));
     for (kind, most) in [(1, 2), (2, 2), (3, 4)] {
         for (reference, number) in [(0, 0), (most, 0), (most + 1, 35), (65_535, 35)] {
             limits.both(DSD, number, |build| build.comments = vec![comments(1, [kind, reference], 1)]);
@@ -310,93 +300,6 @@ fn comment_limits(limits: &mut Limits) {
         let empty = Comments { text: Vec::new(), ..comments(1, [0, 0], 1) };
         build.comments = vec![comments(1, [0, 0], 65_535), empty];
     });
-}
-
-/// Dates and what is none (46), to the day. The original takes all of them.
-const DATES: [([u32; 3], bool); 34] = [
-    // February, in leap years and others.
-    ([1900, 2, 28], true),
-    ([1900, 2, 29], false),
-    ([2000, 2, 29], true),
-    ([2000, 2, 30], false),
-    ([2023, 2, 28], true),
-    ([2023, 2, 29], false),
-    ([2024, 2, 29], true),
-    ([2024, 2, 30], false),
-    ([2024, 2, 31], false),
-    ([2100, 2, 29], false),
-    ([2400, 2, 29], true),
-    ([4, 2, 29], true),
-    ([100, 2, 29], false),
-    ([65_200, 2, 29], true),
-    ([65_300, 2, 29], false),
-    ([65_532, 2, 29], true),
-    // The first and the last year, and none.
-    ([1, 1, 1], true),
-    ([1, 12, 31], true),
-    ([65_535, 12, 31], true),
-    ([65_535, 2, 29], false),
-    ([0, 1, 1], false),
-    ([0, 2, 29], false),
-    ([0, 12, 31], false),
-    // Undated, and a month or a day alone.
-    ([0, 0, 0], true),
-    ([1, 0, 0], true),
-    ([2023, 0, 0], true),
-    ([65_535, 0, 0], true),
-    ([0, 0, 1], false),
-    ([0, 1, 0], false),
-    ([2024, 0, 1], false),
-    ([2024, 0, 31], false),
-    ([2024, 1, 0], false),
-    ([2024, 2, 0], false),
-    ([2024, 12, 0], false),
-];
-
-/// 46, of the second of two comments.
-fn dates(limits: &mut Limits) {
-    let second =
-        |date: Date| move |build: &mut Build| build.comments = vec![comments(1, [0, 0], 1), dated(date, [2, 1], 1)];
-    let mut add = |[year, month, day]: [u32; 3], real: bool, [hour, minutes]: [u32; 2]| {
-        let change = second([year, month, day, hour, minutes]);
-        match real {
-            true => limits.both(DSD, 0, change),
-            false => limits.ours(DSD, 46, change),
-        }
-    };
-    for (date, real) in DATES {
-        add(date, real, [0, 0]);
-        add(date, real, [23, 59]);
-    }
-    for month in SHORT {
-        add([2023, month, 30], true, [12, 30]);
-        add([2023, month, 31], false, [12, 30]);
-    }
-    for month in LONG {
-        add([2023, month, 31], true, [12, 30]);
-    }
-    // 34 comes before, of an undated one too.
-    for date in [[2023, 2, 29, 24, 0], [2023, 2, 29, 0, 60], [0, 0, 0, 24, 0], [0, 0, 0, 0, 60], [0, 13, 0, 0, 0]] {
-        limits.both(DSD, 34, second(date));
-    }
-    unwritten_dates(limits);
-}
-
-/// 46 of comments that are not written, since nothing is left of their texts; and undated ones.
-fn unwritten_dates(limits: &mut Limits) {
-    for (rule, text) in [(REPLACE, vec![]), (REMOVE, vec![0x1F, 0x100]), (D2, vec![0x9F])] {
-        let unwritten = |date: Date| {
-            let text = text.clone();
-            move |build: &mut Build| {
-                build.of.info.conversion.rule = rule;
-                build.comments = vec![Comments { text, ..dated(date, [0, 0], 1) }];
-                set_order(build, &[PROP, SOUND]);
-            }
-        };
-        limits.ours(DSD, 46, unwritten([2023, 4, 31, 0, 0]));
-        limits.both(DSD, 0, unwritten([2023, 4, 30, 0, 0]));
-        limits.both(DSD, 0, unwritten([2023, 0, 0, 0, 0]));
-    }
 }
 
 /// 37 to 39.
@@ -430,9 +333,7 @@ fn long_texts(limits: &mut Limits) {
 
 pub fn limits() -> Vec<Case> {
     let mut limits = Limits { cases: Vec::new() };
-    for of in
-        [pools, caller_names, area, edited_master, properties, info, comment_limits, dates, local_order, long_texts]
-    {
+    for of in [pools, caller_names, area, edited_master, properties, info, comment_limits, local_order, long_texts] {
         of(&mut limits);
     }
     limits.cases

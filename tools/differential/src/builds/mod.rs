@@ -203,7 +203,6 @@ impl Subject for Builds {
         let inputs = case.build.inputs();
         let mut held = rooms::hold(&inputs, &outcome, case.build.of.buffers);
         held.found.extend(case.build.made_for(held.ours, original));
-        held.found.extend(case.build.rule_differs(original));
         if let (Some(figures), Outcome::Built(file)) = (&case.figures, &outcome) {
             held.found.extend(figures.differ(file)?);
         }

@@ -5,7 +5,7 @@ use std::fmt;
 
 use library::checks::Verdict;
 
-use super::fixed::{apart, shown, Fixed, Part, ORDER};
+use super::fixed::{apart, shown, Fixed, Part, LAST};
 use super::{border, Case};
 
 #[derive(Default)]
@@ -56,10 +56,10 @@ impl Counts {
         };
         let name = match part {
             Part::Pair(..) => "pairs of refusals",
-            Part::Left(..) => "  the first put right",
-            Part::Turned(..) => "  the second in an earlier element",
+            Part::Left(..) => "  the lower put right",
+            Part::Turned(..) => "  the higher in an earlier element",
             Part::Same(..) => "  both in one element",
-            Part::AtOnce(_) => "all at once, put right from the first on",
+            Part::AtOnce(_) => "all at once, put right from the lowest on",
             Part::Limit => "limits of 1",
             Part::Border { .. } => "the border of the words",
             Part::Named(_) => "other",
@@ -79,7 +79,7 @@ fn listed(pairs: &[(u32, u32)]) -> String {
 impl Counts {
     /// The pairs of these refusals: met, not as wanted, and why the others cannot be met.
     fn pairs(&self, f: &mut fmt::Formatter<'_>, name: &str, of: impl Fn(u32, u32) -> bool) -> fmt::Result {
-        let pairs = (1..).zip(ORDER).flat_map(|(later, a)| ORDER.into_iter().skip(later).map(move |b| (a, b)));
+        let pairs = (1..LAST).flat_map(|a| (a + 1..=LAST).map(move |b| (a, b)));
         let all: Vec<(u32, u32)> = pairs.filter(|&(a, b)| of(a, b)).collect();
         let met = all.iter().filter(|pair| self.met.contains(pair) && !self.missed.contains(pair)).count();
         let missed: Vec<(u32, u32)> = all.iter().copied().filter(|pair| self.missed.contains(pair)).collect();
@@ -111,8 +111,7 @@ impl fmt::Display for Counts {
         writeln!(f, "{:14}{:^36}{:^36}", "", "drawn cases", "fixed cases")?;
         let columns = format!("{:>8}{:>15}{:>13}", "ours", "the original", "both");
         writeln!(f, "{:14}{columns}{columns}", "answers")?;
-        let others = self.answers.keys().copied().filter(|&number| number != 0 && !ORDER.contains(&number));
-        for number in [0].into_iter().chain(ORDER).chain(others) {
+        for number in (0..=LAST).chain(self.answers.keys().copied().filter(|&number| number > LAST)) {
             let [drawn, fixed] = self.answers.get(&number).copied().unwrap_or_default();
             let name = if number == 0 { "accepted".into() } else { format!("refused {number}") };
             let columns = |[ours, original, both]: [u64; 3]| format!("{ours:>8}{original:>15}{both:>13}");
@@ -128,10 +127,10 @@ impl fmt::Display for Counts {
         writeln!(f, "fixed cases")?;
         for name in [
             "pairs of refusals",
-            "  the first put right",
-            "  the second in an earlier element",
+            "  the lower put right",
+            "  the higher in an earlier element",
             "  both in one element",
-            "all at once, put right from the first on",
+            "all at once, put right from the lowest on",
             "limits of 1",
             "the border of the words",
             "other",
@@ -142,6 +141,6 @@ impl fmt::Display for Counts {
             }
         }
         self.pairs(f, "pairs of refusals that the original shows", |a, b| shown(a) && shown(b))?;
-        self.pairs(f, "pairs with 1, 2, 3, 6, 8 or 46, which it does not", |a, b| !(shown(a) && shown(b)))
+        self.pairs(f, "pairs with 1, 2, 3, 6 or 8, which it does not", |a, b| !(shown(a) && shown(b)))
     }
 }

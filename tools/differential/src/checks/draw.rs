@@ -4,9 +4,8 @@ use library::checks::{COMT, DIIN, DSTI, PROP, SOUND};
 use library::markers::{FIVE_POINT_ONE, STEREO, THREE_TWO, UNSPECIFIED};
 use library::text::Extent;
 
-use super::dates::{self, nearest, MOST};
 use super::faults::{self, Fault};
-use super::fixed::{set_text, shown, ORDER};
+use super::fixed::{set_text, shown, LAST};
 use super::{layout_of, Beyond, Caller, Case, Comments, Lengths, Place, LONGEST_TEXT, USUAL};
 use super::{MOST_CALLERS, MOST_MASTER_TRACKS};
 use crate::markers::draw::{self as of, draw_numbers, last_number, percent, LAST_FRAME, LAYOUTS};
@@ -27,7 +26,7 @@ pub struct Wishes {
 }
 
 fn draw_faults(random: &mut Random) -> Vec<Fault> {
-    let mut numbers: Vec<u32> = ORDER.into_iter().filter(|&number| shown(number)).collect();
+    let mut numbers: Vec<u32> = (1..=LAST).filter(|&number| shown(number)).collect();
     // What 38 asks takes more to decide.
     numbers.extend([38, 38]);
     let count = match random.between(0, 99) {
@@ -77,10 +76,6 @@ pub fn draw(random: &mut Random, outside: bool) -> Case {
     }
     if percent(random, 8) {
         go_beyond(random, &mut case);
-    }
-    // Drawn by itself, so that it changes nothing else.
-    if case.of.buffers % 16 == 7 {
-        dates::put(&mut Random::of_case(case.of.buffers, 46), &mut case);
     }
     settle_id(&mut case, outside);
     case
@@ -154,13 +149,12 @@ pub fn good(random: &mut Random, wishes: &Wishes) -> Case {
     case
 }
 
-/// Comments in their limits, of real dates or undated.
+/// Comments in their limits.
 pub fn draw_comments(random: &mut Random, channels: u8) -> Comments {
-    let date = MOST.map(|most| {
+    let date = [65_535, 12, 31, 23, 59].map(|most| {
         let any = random.between(0, most);
         random.pick(&[0, most, any])
     });
-    let date = nearest(date);
     let kind = random.between(0, 3);
     let reference = match most_reference(kind, channels) {
         None => random.pick(&[0, 1, 65_535, u32::MAX]),

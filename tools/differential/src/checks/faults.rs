@@ -4,7 +4,6 @@ use library::checks::{COMT, DIIN, DSTI, PROP, SOUND};
 use library::markers::{ChannelNumbers, Start, FIVE_POINT_ONE, STEREO, THREE_TWO, UNSPECIFIED};
 use library::text::{Extent, D2, REMOVE, REPLACE};
 
-use super::dates::{nearest, LONG};
 use super::draw::{draw_comments, fit, most_reference, set_channels, set_layout};
 use super::{Caller, Case, Comments, LONGEST_PLAYTIME};
 use crate::markers::draw::{percent, LAST_FRAME};
@@ -280,13 +279,6 @@ fn comment(random: &mut Random, case: &mut Case, number: u32, outside: bool) {
             let place = random.place(4);
             let over = random.pick(&[limits[place] + 1, limits[place] + 1, 255]);
             new.date[1 + place] = if outside { over } else { limits[place] };
-            if !outside {
-                // A day 31 that there is.
-                if place == 1 {
-                    new.date[1] = LONG[new.date[0] as usize % LONG.len()];
-                }
-                new.date = nearest(new.date);
-            }
         }
         35 => {
             new.kind = random.between(1, 3);

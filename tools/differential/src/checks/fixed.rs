@@ -4,16 +4,12 @@ use library::checks::{COMT, DIIN, DSTI, PROP, SOUND};
 use library::markers::{ChannelNumbers, Info, Properties, Start, INDEX, OF_TRACK_THEN_ALBUM, STEREO, UNSPECIFIED};
 use library::text::{Conversion, Extent, Switches, D2, REPLACE};
 
-use super::dates::Date;
 use super::{Beyond, Caller, Case, Comments, Lengths, Place, LONGEST_CALLER_DATA, LONGEST_TEXT, USUAL};
 use super::{MOST_CALLERS, MOST_MARKERS, MOST_MASTER_TRACKS, MOST_TRACKS};
 use crate::markers::{self, MarkerOf, TrackOf};
 
-/// The refusals of a build's inputs in their order: 46 is between 34 and 35.
-pub const ORDER: [u32; 40] = [
-    1, 2, 3, 4, 5, 6, 7, 8, 9, 10, 11, 12, 13, 14, 15, 16, 17, 18, 19, 20, 21, 22, 23, 24, 25, 26, 27, 28, 29, 30, 31,
-    32, 33, 34, 46, 35, 36, 37, 38, 39,
-];
+/// The last refusal of a build's inputs.
+pub const LAST: u32 = 39;
 
 /// What a fixed case is for.
 #[derive(Clone, Copy, PartialEq)]
@@ -34,7 +30,7 @@ pub enum Part {
     Turned(u32, u32),
     /// Both in one element.
     Same(u32, u32),
-    /// As many as go together, from this on; 0 for none.
+    /// As many as go together, from this on.
     AtOnce(u32),
     /// A limit of 1.
     Limit,
@@ -51,7 +47,6 @@ impl Fixed {
             Part::Left(a, b) => format!("{a} and {b}, {a} put right"),
             Part::Turned(a, b) => format!("{a} and {b}, {b} in an earlier element"),
             Part::Same(a, b) => format!("{a} and {b} in one element"),
-            Part::AtOnce(0) => "all at once, all put right".into(),
             Part::AtOnce(first) => format!("all at once from {first} on"),
             Part::Limit => "a limit".into(),
             Part::Border { .. } => "the border of the words".into(),
@@ -62,10 +57,10 @@ impl Fixed {
 
 /// Whether the original has the refusal.
 pub fn shown(number: u32) -> bool {
-    !matches!(number, 1 | 2 | 3 | 6 | 8 | 46)
+    !matches!(number, 1 | 2 | 3 | 6 | 8)
 }
 
-/// Why two refusals, in their order, cannot be met together so that the first is the answer.
+/// Why two refusals, the lower first, cannot be met together so that the lower is the answer.
 pub fn apart(a: u32, b: u32) -> Option<&'static str> {
     match (a, b) {
         (8, 16 | 25..=27) => Some("8 is of a defined layout, 16 and 25 to 27 are of an unspecified one"),
@@ -80,8 +75,7 @@ pub fn apart(a: u32, b: u32) -> Option<&'static str> {
 }
 
 /// Pairs that are decided element by element.
-const BY_ELEMENT: [(u32, u32); 9] =
-    [(4, 5), (26, 27), (32, 33), (34, 46), (34, 35), (34, 36), (46, 35), (46, 36), (35, 36)];
+const BY_ELEMENT: [(u32, u32); 6] = [(4, 5), (26, 27), (32, 33), (34, 35), (34, 36), (35, 36)];
 
 /// What else decides what a case can be at fault in.
 #[derive(Clone, Copy)]
@@ -182,20 +176,9 @@ pub fn track(start: u32, duration: u32) -> TrackOf {
     TrackOf { start, duration, title: Extent::default(), untitled: false }
 }
 
-pub fn dated(date: Date, [kind, reference]: [u32; 2], count: u32) -> Comments {
-    Comments { date, kind, reference, text: vec![0x41], count }
+pub fn comments(month: u32, [kind, reference]: [u32; 2], count: u32) -> Comments {
+    Comments { date: [0, month, 0, 0, 0], kind, reference, text: vec![0x41], count }
 }
-
-/// Comments of the first of this month.
-pub fn comments(month: u32, of: [u32; 2], count: u32) -> Comments {
-    dated([2024, month, 1, 0, 0], of, count)
-}
-
-/// Undated; out of the limits of 34; no date; and both.
-pub const UNDATED: Date = [0; 5];
-const OUT_OF_RANGE: Date = [0, 13, 0, 0, 0];
-const NO_DATE: Date = [2023, 2, 29, 0, 0];
-const NO_DATE_OUT_OF_RANGE: Date = [2023, 2, 29, 24, 0];
 
 /// The one byte of the byte pool, which no text has, and none.
 const BAD: Extent = Extent { start: 0, length: 1 };
@@ -348,30 +331,22 @@ fn faulty(context: Context, faults: &[u32], form: Form) -> Case {
 
     // A kind and its reference.
     let (good, bad) = ([0, 0], [2, 3]);
-    let date = match (has(34), has(46)) {
-        (false, false) => UNDATED,
-        (true, false) => OUT_OF_RANGE,
-        (false, true) => NO_DATE,
-        (true, true) => NO_DATE_OUT_OF_RANGE,
-    };
+    let month = if has(34) { 13 } else { 0 };
     let reference = if has(35) { bad } else { good };
     let mut elements = Vec::new();
     if form == Form::Same && has(36) {
-        elements = vec![dated(UNDATED, good, 65_535), dated(date, reference, 1)];
-    } else if form == Form::Same && any(&[34, 46, 35]) {
-        elements = vec![dated(date, reference, 1)];
+        elements = vec![comments(0, good, 65_535), comments(month, reference, 1)];
+    } else if form == Form::Same && any(&[34, 35]) {
+        elements = vec![comments(month, reference, 1)];
     } else {
         if has(34) {
-            elements.push(dated(OUT_OF_RANGE, good, 1));
-        }
-        if has(46) {
-            elements.push(dated(NO_DATE, good, 1));
+            elements.push(comments(13, good, 1));
         }
         if has(35) {
-            elements.push(dated(UNDATED, bad, 1));
+            elements.push(comments(0, bad, 1));
         }
         if has(36) {
-            elements.push(dated(UNDATED, good, 65_536));
+            elements.push(comments(0, good, 65_536));
         }
         if form == Form::Turned {
             elements.reverse();
@@ -402,7 +377,7 @@ fn of_original(context: Context, faults: &[u32]) -> u32 {
     faults.iter().find(seen).copied().unwrap_or(0)
 }
 
-/// The case with faults in their order.
+/// The case with faults in rising order.
 fn made(context: Context, faults: &[u32], form: Form, part: Part) -> Case {
     let mut case = faulty(context, faults, form);
     case.fixed =
@@ -426,8 +401,8 @@ fn goes(Context { dst, edited_master }: Context, a: u32, b: u32) -> bool {
 }
 
 fn pairs(cases: &mut Vec<Case>) {
-    for (place, a) in ORDER.into_iter().enumerate() {
-        for b in ORDER.into_iter().skip(place + 1) {
+    for a in 1..LAST {
+        for b in a + 1..=LAST {
             for context in CONTEXTS.into_iter().filter(|&context| goes(context, a, b)) {
                 // Tracks that are not there have no fault.
                 let many = a == 17 && matches!(b, 18..=20);
@@ -446,8 +421,7 @@ fn pairs(cases: &mut Vec<Case>) {
     for (a, b) in BY_ELEMENT {
         for context in CONTEXTS.into_iter().filter(|&context| goes(context, a, b)) {
             let mut turned = made(context, &[a, b], Form::Turned, Part::Turned(a, b));
-            let original = if shown(b) { b } else { a };
-            turned.fixed = turned.fixed.map(|fixed| Fixed { ours: b, original, ..fixed });
+            turned.fixed = turned.fixed.map(|fixed| Fixed { ours: b, original: b, ..fixed });
             cases.push(turned);
             if a >= 32 {
                 cases.push(made(context, &[a, b], Form::Same, Part::Same(a, b)));
@@ -456,19 +430,19 @@ fn pairs(cases: &mut Vec<Case>) {
     }
 }
 
-/// Faults all at once, put right from the first on.
+/// Faults all at once, put right from the lowest on.
 fn at_once(cases: &mut Vec<Case>) {
     for context in CONTEXTS {
         let goes = |&number: &u32| match number {
             9 | 10 => context.dst,
             13 | 14 | 25..=27 | 32 | 33 => !context.edited_master,
             15..=23 => context.edited_master,
-            _ => shown(number) || number == 46,
+            _ => shown(number),
         };
-        let faults: Vec<u32> = ORDER.into_iter().filter(goes).collect();
+        let faults: Vec<u32> = (1..=LAST).filter(goes).collect();
         for from in 0..=faults.len() {
             let left = &faults[from..];
-            let first = left.first().copied().unwrap_or(0);
+            let first = left.first().copied().unwrap_or(LAST + 1);
             cases.push(made(context, left, Form::InOrder, Part::AtOnce(first)));
             if left.contains(&17) {
                 cases.push(made(context, left, Form::Many, Part::AtOnce(first)));
@@ -506,7 +480,7 @@ pub fn set_text(case: &mut Case, place: Place, values: &[u32]) {
             of.custom.push(marker(info.first, raw));
             of.raw.extend(bytes);
         }
-        Place::Comment => case.comments.push(Comments { text: values.to_vec(), ..dated(UNDATED, [0, 0], 1) }),
+        Place::Comment => case.comments.push(Comments { text: values.to_vec(), ..comments(0, [0, 0], 1) }),
         Place::Caller => case.callers.push(Caller { data: bytes.collect(), ..caller(b"AAAA") }),
     }
 }

@@ -2,7 +2,6 @@
 
 pub mod border;
 pub mod counts;
-pub mod dates;
 pub mod draw;
 mod faults;
 pub mod fixed;
@@ -16,7 +15,6 @@ use library::markers::{Marker, INDEX, OF_TRACK_THEN_ALBUM, PROGRAM_START, UNSPEC
 use library::text::{D2, REMOVE};
 
 use self::counts::Counts;
-use self::dates::Date;
 use self::fixed::Fixed;
 use crate::markers::draw::LAYOUTS;
 use crate::markers::{self, meant, order, LAST_TOLD};
@@ -56,7 +54,7 @@ pub struct Case {
 /// So many comments of a kind, one after the other.
 #[derive(Clone, Debug, PartialEq)]
 pub struct Comments {
-    pub date: Date,
+    pub date: [u32; 5],
     pub kind: u32,
     pub reference: u32,
     pub text: Vec<u32>,
@@ -226,17 +224,6 @@ impl Case {
         u64::from(start) + u64::from(length) > self.raw_bytes() as u64
     }
 
-    /// Whether a comment of this text is written.
-    pub fn writes(&self, text: &[u32]) -> bool {
-        let info = &self.of.info;
-        let passes = |value: &u32| match info.conversion.rule {
-            REMOVE => (0x20..=0x7E).contains(value),
-            _ if self.d2() => matches!(value, 0x20..=0x7E | 0xA0..=0xFF),
-            _ => true,
-        };
-        info.switches.empty_text || text.iter().any(passes)
-    }
-
     /// Refusals of ours that the original does not have, though it is told the same (but for the extent of an EMID that is off).
     fn over(&self) -> Option<(&'static str, u32)> {
         let info = &self.of.info;
@@ -270,7 +257,7 @@ impl Case {
         } else if info.playtime > LONGEST_PLAYTIME {
             Some(("6: a long playtime", 6))
         } else {
-            self.no_date().map(|why| (why, 46))
+            None
         }
     }
 
@@ -506,16 +493,12 @@ pub fn told(Verdict { number, detail }: Verdict) -> String {
 
 /// Our verdict, from the original's and from what the case has that the original does not look at.
 pub fn wanted(case: &Case, original: Verdict) -> Wanted {
-    // 46 is of a comment before those that have a fault which the original sees.
-    let over = case.over().map(|(_, number)| (number, if number == 46 { 34 } else { number }));
-    let first = case.beyond.iter().filter_map(|beyond| beyond.refusal()).chain(over);
-    let first = first.min_by_key(|&(number, later)| (later, number));
-    let zero = original.number == 13 && case.beyond.contains(&Beyond::TrackZero);
+    let over = case.over().map(|(_, number)| (number, number));
+    let first = case.beyond.iter().filter_map(|beyond| beyond.refusal()).chain(over).min();
     match first {
-        Some((_, later)) if zero && later > 13 => Wanted::After(13),
         Some((_, later)) if original.number != 0 && original.number < later => Wanted::Only(original),
         Some((number, _)) => Wanted::Only(Verdict { number, detail: 0 }),
-        None if zero => Wanted::After(13),
+        None if original.number == 13 && case.beyond.contains(&Beyond::TrackZero) => Wanted::After(13),
         None => Wanted::Only(original),
     }
 }
@@ -607,7 +590,6 @@ impl Subject for Checks {
             });
         }
         found.extend(case.made_for(ours, original));
-        found.extend(case.rule_differs(original));
         counts.count(case, ours, original, found.is_empty());
         let known = match wanted {
             Wanted::Only(verdict) => Some(verdict),
