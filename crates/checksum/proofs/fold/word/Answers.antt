@@ -17,5 +17,5 @@ returns c = let i₄ = c.args.i + 1 + 1 + 1 + 1 in
     low-next c.args.content.now c.args.i 7 _ _ c.push-7.ensures.0 (low-next c.args.content.now (c.args.i + 1) 6 _ _ c.push-6.ensures.0
     (low-next c.args.content.now (c.args.i + 1 + 1) 5 _ _ c.push-5.ensures.0 (low-next c.args.content.now (c.args.i + 1 + 1 + 1) 4 _ _ c.push-4.ensures.0 high))) in
     λ r.
-    low_fed 8 c.args.content.now c.args.i r c.requires (λ k. omega (arith, c.shared_slice_known-9-1.given k))
+    low_fed 8 c.args.content.now c.args.i r c.requires (λ k. omega (arith, c.type_inv.content k))
     ∙ ap (λ (x : ℕ). bytes_of (feed 8 r x) (drop (c.args.i + 8) c.args.content.now)) (sym w)
