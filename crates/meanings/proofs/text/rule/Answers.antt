@@ -1,0 +1,12 @@
+-- `text::rule` meets its contract. Assumes nothing.
+use borrow.Author.Tests.{eq-eqb, ne_eqb}
+use Rattle.meanings.proofs.text.rule.Goals as goal
+
+pub returns-then-number-eq0 : goal.returns-then-number-eq0
+returns-then-number-eq0 c = rw (eq-eqb c.args.number 0 c.if-number-eq0.true)
+
+pub returns-then-number-eq1 : goal.returns-then-number-eq1
+returns-then-number-eq1 c = rw (ne_eqb c.args.number 0 c.if-number-eq0.false, eq-eqb c.args.number 1 c.if-number-eq1.true)
+
+pub returns : goal.returns
+returns c = rw (ne_eqb c.args.number 0 c.if-number-eq0.false, ne_eqb c.args.number 1 c.if-number-eq1.false)
