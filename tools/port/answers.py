@@ -142,7 +142,7 @@ def turn_paths(text, env, places):
         kind, value = env[name]
         fields = [f for f in tail.split(".") if f]
         after = text[match.end():match.end() + 2]
-        if not tail and (name == "at" or after == " ="):
+        if not tail and (name == "at" or after == " =" and re.search(r"[{;]\s*$", text[:match.start()])):
             return match.group(0)
         if kind == "text":
             return value + tail

@@ -1,6 +1,5 @@
 -- The goals that a check leaves.
 use mathlib.Core.Path.{◌≡◌}
-use mathlib.Core.Logic.{⊎_elim}
 use mathlib.Core.List.{flat_map}
 use Prim.Native.Nat.{◌<◌, ◌-◌, min}
 use native.Mathlib.Omega.{arith}
@@ -12,6 +11,7 @@ use Rattle.file_tree.specs.Steps.{has_sound}
 use Rattle.file_tree.proofs.SideLaws.{passed-next}
 use Rattle.file_layout.proofs.WriteLaws.{side-none, side_then}
 use Rattle.file_layout.proofs.locals.local_chunks.Goals as goal
+use Rattle.file_layout.proofs.locals.local_chunks.Goals.{then-on_side, else-on_side}
 
 pub loop-i-init : goal.loop-i-init
 unfolding has_sound flat_map
@@ -22,19 +22,19 @@ bounds-order-i c = omega (arith, c.at_most-n.ensures)
 
 pub loop-i-preserved : goal.loop-i-preserved
 loop-i-preserved c = let five : length c.args.order ≡ 5 = c.well_formed.1.1.1.0.1.0.1 in
-    let more : c.loop-i.i < length order = omega (arith, c.at_most-n.ensures, c.loop-i-test.true) in (
+    let more : c.loop-i.i < length c.args.order = omega (arith, c.at_most-n.ensures, c.loop-i-test.true) in (
       search rules,
       rw (passed-next c.args.order c.loop-i.i Property more, ← c.loop-i.invariant.1, ← c.is_sound-sound.ensures),
-      ⊎_elim
-          (λ w.
-          rw (w.5, w.6)
-          (side_then _ c.args.order c.loop-i.i Property more c.args.behind c.loop-i.invariant.1 c.is_sound-sound.ensures c.on_side.ensures w.0.taken
-          c.loop-i.invariant.2.1 w.2.ensures))
-          (λ w.
-          rw (w.1, w.2)
-          (side_then _ c.args.order c.loop-i.i Property more c.args.behind c.loop-i.invariant.1 c.is_sound-sound.ensures c.on_side.ensures w.0.left
-          c.loop-i.invariant.2.1 (none (search rules) (search rules))))
-          c.if-on_side.branch,
+      elim c.if-on_side.branch [
+        | then-on_side w ↦
+            rw (w.out-is, w.c-is)
+            (side_then _ c.args.order c.loop-i.i Property more c.args.behind c.loop-i.invariant.1 c.is_sound-sound.ensures c.on_side.ensures w.if-on_side.true
+            c.loop-i.invariant.2.1 w.local_chunk-c.ensures)
+        | else-on_side w ↦
+            rw (w.out-is, w.c-is)
+            (side_then _ c.args.order c.loop-i.i Property more c.args.behind c.loop-i.invariant.1 c.is_sound-sound.ensures c.on_side.ensures w.if-on_side.false
+            c.loop-i.invariant.2.1 (none (search rules) (search rules)))
+      ],
     )
 
 pub returns : goal.returns
