@@ -44,7 +44,7 @@ want() {
 # The library: the one that JANGQERUZ_LIBRARY names, else it is proved and compiled here.
 library() {
     if [ -z "${JANGQERUZ_LIBRARY:-}" ]; then
-        (cd "$root" && RT_JOBS="${RT_JOBS:-4}" bounded 3600 rt staticlib abi) || return 1
+        bounded 3600 "$root/host/library/archive.sh" || return 1
         JANGQERUZ_LIBRARY=$root/target/staticlib/libabi.a
     fi
     JANGQERUZ_LIBRARY=$(realpath "$JANGQERUZ_LIBRARY") && [ -f "$JANGQERUZ_LIBRARY" ] && export JANGQERUZ_LIBRARY

@@ -126,7 +126,7 @@ completion() {
 
 c_compiler() {
     local program
-    for program in examples/c/one.c host/tests/figures.c; do
+    for program in examples/c/one.c host/tests/figures.c host/tests/dates.c; do
         if want gcc g++; then
             try "$program as C99, ASan and UBSan" compiled "$program" gcc -std=c99 -x c
             try "$program as C++, ASan and UBSan" compiled "$program" g++ -std=c++11 -x c++
@@ -134,6 +134,16 @@ c_compiler() {
             skip "$program" "no$(missing gcc g++)"
         fi
     done
+}
+
+# Dates and windows, held against Python's own calendar.
+calendar() {
+    if command -v python3 >/dev/null && want gcc; then
+        try "tools/calendar: the dates and windows of Python's calendar" \
+            bounded 300 "$root/tools/calendar/run.sh" --library "$JANGQERUZ_LIBRARY"
+    else
+        skip "tools/calendar" "no$(missing python3 gcc)"
+    fi
 }
 
 reader() {
@@ -187,6 +197,7 @@ else
     skip "tools/border" "no python3"
 fi
 c_compiler
+calendar
 man_pages
 if command -v cargo >/dev/null && want "${host_packages[@]}" gcc; then
     host

@@ -13,7 +13,7 @@
  * - Nothing is kept after the call, nothing is allocated, there is no global state: any thread may call at any time.
  * - 32 KiB of stack are enough.
  * - Every input is answered: with bytes, or with the number of a refusal (enum jangqeruz_refusal; docs/REFUSALS.md),
- *   and then no buffer of bytes is altered. The build, the query and the read are proved to answer so.
+ *   and then no buffer of bytes is altered. The build, the query, the read and the dates are proved so.
  * - A switch is on if its word is not 0.
  */
 #ifndef JANGQERUZ_H
@@ -257,6 +257,11 @@ enum jangqeruz_refusal {
      * bytes for DST, otherwise empty).
      */
     JANGQERUZ_REFUSED_WRONGLY_LENT = 43,
+    /* A comment's date must be a Gregorian date with year 1 or later, or have month and day both zero, the sign for an
+     * undated note. Only of dates and windows that are asked about by themselves; a build takes a comment with any date
+     * that 34 allows.
+     */
+    JANGQERUZ_REFUSED_NO_SUCH_DATE = 46,
 };
 
 /* ------------------------------------------------------------------------------------------------------------------- */
@@ -491,6 +496,32 @@ size_t jangqeruz_comt(
     uint8_t replacement,
     bool empty_text,
     bool text_pad_counted);
+
+/* ------------------------------------------------------------------------------------------------------------------- */
+
+/* Dates of comments. A stamp is five words: year, month, day, hour and minutes, as a comment's row begins with them.
+ * Where a refusal is answered, it is by its number, 34 or 46, 0 for none.
+ */
+
+/* What is wrong with a date that a window starts or ends with. */
+uint64_t jangqeruz_date_fault(const uint32_t date[5]);
+
+/* What is wrong with the date of a comment, which may be undated: month and day both 0. A build asks less: it refuses a
+ * comment's date with 34 alone.
+ */
+uint64_t jangqeruz_note_fault(const uint32_t note[5]);
+
+/* Whether `a` is earlier than `b`, by year, then month, day, hour and minutes. Nothing is refused. */
+bool jangqeruz_earlier(const uint32_t a[5], const uint32_t b[5]);
+
+/* Whether a comment falls in a window, its start counted in and its end counted out; an undated one falls in none.
+ * `falls` gets 1 or 0, or the refusal's detail.
+ */
+uint64_t jangqeruz_falls_in(
+    uint64_t falls[1],
+    const uint32_t start[5],
+    const uint32_t end[5],
+    const uint32_t note[5]);
 
 /* ------------------------------------------------------------------------------------------------------------------- */
 

@@ -1,5 +1,5 @@
 //! Links the static library that the environment variable JANGQERUZ_LIBRARY names; without it, the one that
-//! `rt staticlib abi` writes into `target` of the repository.
+//! host/library/archive.sh writes into `target` of the repository.
 
 use std::env;
 use std::path::{Path, PathBuf};
@@ -40,6 +40,6 @@ fn library() -> Result<PathBuf, String> {
     let path = root.join(WRITTEN);
     match path.is_file() {
         true => Ok(path),
-        false => Err(format!("no {}: run `rt staticlib abi`, or set JANGQERUZ_LIBRARY", path.display())),
+        false => Err(format!("no {}: run host/library/archive.sh, or set JANGQERUZ_LIBRARY", path.display())),
     }
 }

@@ -17,7 +17,7 @@ prepare() {
 
 prepare_library() {
     if [ -z "$library" ]; then
-        (cd "$root" && rt staticlib abi) >&2 || failed "the library could not be built"
+        "$root/host/library/archive.sh" >&2 || failed "the library could not be built"
         library=$root/target/staticlib/libabi.a
     fi
     [ -f "$library" ] || failed "no such file: $library"

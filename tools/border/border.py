@@ -6,6 +6,7 @@ Rust declarations, names and refusals, and two papers.
     tools/border/border.py --check    only compares them
     tools/border/border.py --try      compares, with each parameter of each exported function changed in turn: none may pass
 
+In each case crates/abi_c/src, which a C program is linked with, has just abi's functions, with the same clauses.
 Exit status: 0 all is well; 1 a file differs, or a table does not agree with crates/*/specs."""
 import re, sys
 
@@ -60,7 +61,7 @@ def try_all():
 def main():
     if "--try" in sys.argv:
         return try_all()
-    problems = []
+    problems = list(exports.not_for_c(exports.sources()))
     for name, path, text in differing(made(exports.sources(), tables.words(problems), tables.refusals(problems))):
         if "--check" in sys.argv:
             problems.append(f"{name} differs from crates/abi/src and the tables; run tools/border/border.py")

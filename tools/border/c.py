@@ -20,7 +20,7 @@ HEAD = """\
  * - Nothing is kept after the call, nothing is allocated, there is no global state: any thread may call at any time.
  * - 32 KiB of stack are enough.
  * - Every input is answered: with bytes, or with the number of a refusal (enum jangqeruz_refusal; docs/REFUSALS.md),
- *   and then no buffer of bytes is altered. The build, the query and the read are proved to answer so.
+ *   and then no buffer of bytes is altered. The build, the query, the read and the dates are proved so.
  * - A switch is on if its word is not 0.
  */
 #ifndef JANGQERUZ_H
@@ -44,6 +44,7 @@ NOTES = {
         "comments there may be any number of rows, since 36 counts those that are written. A server adds up the lengths in all words",
         "and rows before it calls, and turns away what is above a limit of its own.",
     ],
+    "jangqeruz_note_fault": ["A build asks less: it refuses a comment's date with 34 alone."],
     "jangqeruz_verdict": ["The time grows as that of `jangqeruz_build`, and a server does the same about it."],
 }
 
@@ -67,6 +68,10 @@ def comment(lines, indent=""):
 def upper(name):
     """NoFile as NO_FILE."""
     return "".join("_" * (letter.isupper() and i > 0) + letter.upper() for i, letter in enumerate(name))
+
+
+def told_of(refusal):
+    return refusal["words"] + (f" Only {refusal['only']}." if "only" in refusal else "")
 
 
 def members(rows):
@@ -123,7 +128,7 @@ def header(subjects, table, refusals):
     out += "\n/* The word of a marker's kind and flags, and the word of a chunk's name, as 'A', 'B', 'C', 'D'. */\n"
     out += "#define JANGQERUZ_KIND_AND_FLAGS(kind, flags) ((uint32_t)(kind) * 65536u + (uint32_t)(flags))\n"
     out += "#define JANGQERUZ_NAME(a, b, c, d) \\\n    (((uint32_t)(a) << 24) | ((uint32_t)(b) << 16) | ((uint32_t)(c) << 8) | (uint32_t)(d))\n"
-    rows = [("ACCEPTED", 0, "")] + [(f"REFUSED_{upper(r['name'])}", r["number"], r["words"]) for r in refusals]
+    rows = [("ACCEPTED", 0, "")] + [(f"REFUSED_{upper(r['name'])}", r["number"], told_of(r)) for r in refusals]
     out += enum("jangqeruz_refusal", "The numbers of the refusals.", rows)
     for subject in subjects:
         out += f"\n/* {'-' * 115} */\n\n{comment(subject.comment)}\n"

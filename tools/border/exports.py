@@ -1,10 +1,10 @@
-"""The exported functions, read from crates/abi/src."""
+"""The exported functions, read from crates/abi/src; crates/abi_c/src, which C is linked with, is held to it."""
 import re
 from pathlib import Path
 
 ROOT = Path(__file__).resolve().parents[2]
 SCALARS = ("u8", "u16", "u32", "u64", "usize", "bool")
-EXPORT = re.compile(r'((?:^//.*\n)*)#\[no_mangle\]\npub extern "C" fn (\w+)\(([^)]*)\)(?: -> (\w+))?', re.M)
+EXPORT = re.compile(r'((?:^//.*\n)*)#\[unsafe\(no_mangle\)\]\npub extern "C" fn (\w+)\(([^)]*)\)(?: -> (\w+))?', re.M)
 
 
 class Parameter:
@@ -35,12 +35,39 @@ class Subject:
         self.name = path.stem
         self.comment = [line[2:].strip() for line in re.match(r"((?:^//.*\n)*)", text, re.M).group(1).splitlines()]
         self.functions = [Function(*found, path.name) for found in EXPORT.findall(text)]
-        if len(self.functions) != text.count("#[no_mangle]"):
+        if len(self.functions) != text.count("#[unsafe(no_mangle)]"):
             raise SystemExit(f"{path}: an exported function that is not understood")
 
 
+HEAD = re.compile(r'#\[unsafe\(no_mangle\)\]\n(pub extern "C" fn (\w+)\(([^)]*)\).*?)\n\{\n(.*?)\n\}\n', re.S)
+
+
+def heads(text):
+    """Of each exported function of a file: its head with all clauses, its parameters and its body."""
+    return {name: (head, re.findall(r"(\w+):", parameters), body) for head, name, parameters, body in HEAD.findall(text)}
+
+
+def not_for_c(texts):
+    """Where abi_c has another function than abi, another head of one, or a body that is not the call of abi's."""
+    folder = ROOT / "crates" / "abi_c" / "src"
+    theirs = {path.name: path.read_text(encoding="utf-8") for path in sorted(folder.glob("*.rt"))}
+    if sorted(theirs) != sorted(path.name for path in texts):
+        yield "crates/abi_c/src has other files than crates/abi/src"
+    for path, text in texts.items():
+        for_c, ours = theirs.get(path.name, ""), heads(text)
+        if sorted(heads(for_c)) != sorted(ours) or for_c.count("#[unsafe(no_mangle)]") != len(ours):
+            yield f"crates/abi_c/src/{path.name} has other functions than abi's"
+        for name, (head, _, body) in heads(for_c).items():
+            wanted, parameters, _ = ours.get(name, ("", [], ""))
+            if head != wanted:
+                yield f"crates/abi_c/src/{path.name}: {name} is told otherwise than in abi"
+            call = f"abi::{path.stem}::{name}({','.join(parameters)})"
+            if "".join(body.split()).replace(",)", ")").rstrip(";") != call:
+                yield f"crates/abi_c/src/{path.name}: {name} does more than to call abi's"
+
+
 # the functions that a program calls come first, those of single chunks after them
-ORDER = ["defaults", "build", "verdict", "reads", "property", "diin", "text", "sound"]
+ORDER = ["defaults", "build", "verdict", "reads", "property", "diin", "text", "dates", "sound"]
 
 
 def sources():

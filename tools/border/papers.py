@@ -12,11 +12,14 @@ that applies is the answer. "Definition" is the one that the proofs go by.
     for r in table:
         out += f"\n## {r['number']}\n\n"
         out += f"**{r['words']}**\n\n"
+        if "only" in r:
+            out += f"Only {r['only']}.\n\n"
         if "detail" in r:
             out += f"Detail: {r['detail']}.\n\n"
         out += f"What to do: {r['remedy']}\n\n"
         told = "; ".join(f"`{name}` in [{path}](../{path})" for path, name in r["definitions"])
-        out += f"Definition: {told}. In C `JANGQERUZ_REFUSED_{upper(r['name'])}`, in Rust `Refusal::{r['name']}`.\n"
+        kind = "DateRefusal" if "only" in r else "Refusal"
+        out += f"Definition: {told}. In C `JANGQERUZ_REFUSED_{upper(r['name'])}`, in Rust `{kind}::{r['name']}`.\n"
     return out
 
 

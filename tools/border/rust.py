@@ -1,6 +1,8 @@
 """The Rust declarations, names and refusals."""
 import textwrap
 
+from c import upper
+
 MADE = "//! Made by tools/border/border.py from {of}; not edited by hand."
 
 
@@ -61,7 +63,14 @@ def string(text):
     return '"' + text.replace("\\", "\\\\").replace('"', '\\"') + '"'
 
 
-def refusals(table):
+def told(r, indent):
+    definition = "; ".join(f"{path}: {name}" for path, name in r["definitions"])
+    lines = [f"words: {string(r['words'])}", f"remedy: {string(r['remedy'])}", f"definition: {string(definition)}"]
+    return "Told {\n" + "".join(f"{indent}    {line},\n" for line in lines) + indent + "}"
+
+
+def refusals(all_refusals):
+    table, others = ([r for r in all_refusals if ("only" in r) == of_dates] for of_dates in (False, True))
     out = "//! The refusals, in checking order.\n//!\n"
     out += MADE.format(of="tools/border/refusals.toml and the definitions in crates/*/specs") + "\n\n"
     out += "/// Why a build or a read is refused. Each has its number, the words of the rule, and what to do about it.\n"
@@ -85,7 +94,9 @@ def refusals(table):
     out += " | ".join(f"Refusal::{r['name']}(detail)" for r in table if "detail" in r) + " => detail,\n            _ => 0,\n        }\n    }\n\n"
     out += "    pub(crate) fn told(&self) -> Told {\n        match self {\n"
     for r in table:
-        definition = "; ".join(f"{path}: {name}" for path, name in r["definitions"])
-        out += f"            Refusal::{r['name']}{'(_)' if 'detail' in r else ''} => Told {{\n"
-        out += f"                words: {string(r['words'])},\n                remedy: {string(r['remedy'])},\n                definition: {string(definition)},\n            }},\n"
-    return out + "        }\n    }\n}\n"
+        out += f"            Refusal::{r['name']}{'(_)' if 'detail' in r else ''} => {told(r, ' ' * 12)},\n"
+    out += "        }\n    }\n}\n"
+    for r in others:
+        out += "\n" + doc(f"Of {r['number']}, which is only {r['only']}.", "")
+        out += f"pub(crate) const {upper(r['name'])}: Told = {told(r, '')};\n"
+    return out

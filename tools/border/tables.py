@@ -18,9 +18,9 @@ def spec(crate, name):
 
 
 def default_words():
-    """The numbers of `defaultWords`, its parts joined."""
+    """The numbers of `default_words`, its parts joined."""
     text = spec("words", "Defaults")
-    parts = re.search(r"^defaultWords = (.*)$", text, re.M).group(1).split(" ++ ")
+    parts = re.search(r"^default_words = (.*)$", text, re.M).group(1).split(" ++ ")
     return [int(n, 0) for part in parts for n in re.search(rf"^{part} = (.*) ∷ \[\]$", text, re.M).group(1).split(" ∷ ")]
 
 
@@ -30,9 +30,9 @@ def places():
     for line in spec("words", "Inputs").splitlines():
         field, _, made = line.strip().partition(" = ")
         numbers = {int(n) for n in re.findall(r"\bw (\d+)", made)}
-        for start, count in re.findall(r"lowBytes w (\d+) (\d+)", made):
+        for start, count in re.findall(r"low_bytes w (\d+) (\d+)", made):
             numbers |= set(range(int(start), int(start) + int(count)))
-        for start in re.findall(r"textAt w (\d+)", made):
+        for start in re.findall(r"text_at w (\d+)", made):
             numbers |= set(range(int(start), int(start) + 3))
         if numbers:
             found[field.strip("«»")] = numbers
@@ -40,7 +40,7 @@ def places():
 
 
 def count_of_words():
-    return int(re.search(r"^wordCount = (\d+)$", spec("words", "Border"), re.M).group(1))
+    return int(re.search(r"^word_count = (\d+)$", spec("words", "Border"), re.M).group(1))
 
 
 def words(problems):
@@ -60,7 +60,7 @@ def words(problems):
 
 
 def refusals(problems):
-    """The table of refusals, each with 01's words and its definitions."""
+    """The table of refusals, each with its words (01's; 02's of one that only dates have) and its definitions."""
     defined, quoted = definitions_of_refusals.defined(), definitions_of_refusals.quoted()
     table = load("refusals.toml")["refusal"]
     if [refusal["number"] for refusal in table] != sorted(defined):
@@ -70,7 +70,7 @@ def refusals(problems):
         at = defined.get(number, [])
         told = [quoted[number, where] for where, _ in at if (number, where) in quoted]
         if not told:
-            problems.append(f"refusals.toml: {number} has no definition with 01's words")
+            problems.append(f"refusals.toml: {number} has no definition with its words")
         refusal["words"] = (told or [""])[0].rstrip(".") + "."
         refusal["definitions"] = [(f"crates/{crate}/specs/{file}.antt", name) for (crate, file), name in at]
     return table

@@ -14,7 +14,7 @@ usage: run.sh [OPTION VALUE]..
   --record FILE    compare nothing, write a sample of the original's answers
   --cases FILE     with the drawn builds of this list in it (without: they are chosen, and target/differential/chosen.txt lists them)
   --request DIR    the folder of the request (../shared beside the repository's root)
-  --library FILE   this archive instead of that of `rt staticlib abi`
+  --library FILE   this archive instead of that of host/library/archive.sh
 END
     exit 2
 }

@@ -16,11 +16,11 @@ from pathlib import Path
 ROOT = Path(__file__).resolve().parents[2]
 CRATES = ROOT / "crates"
 PAPER = (ROOT / "docs" / "MAP.md").read_text(encoding="utf-8")
-LINES = dict(re.findall(r"^(\w+):(.*)$", (ROOT / "crates.txt").read_text(encoding="utf-8"), re.M))
+LINES = dict(re.findall(r"^(\w+)(?: staticlib)?:(.*)$", (ROOT / "crates.txt").read_text(encoding="utf-8"), re.M))
 DEFINITIONS, CODE, LAWS = "definitions (specs/)", "code (src/)", "laws (proofs/)"
 COLUMNS = {DEFINITIONS: ("specs", ".antt"), CODE: ("src", ""), LAWS: ("proofs", ".antt")}
 BELOW = re.compile(r" and what (?:it rests|they rest) on")
-DEFINES = re.compile(r"^(?!\s*(?:--|//|(?:pub |ghost )?use |module |(?:pub )?mod |$))", re.M)
+DEFINES = re.compile(r"^(?!\s*(?:--|//|#!\[|(?:pub |ghost )?use |module |(?:pub )?mod |$))", re.M)
 
 
 def tables():

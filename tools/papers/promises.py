@@ -28,9 +28,9 @@ def balanced(text, at):
 def heads(text):
     """Of each public function: its name, its parameters and answer, its `requires` and its `ensures`."""
     for found in FUNCTION.finditer(text):
-        signature_end = re.compile(r"\n\s*(?:requires|ensures) \{|\{").search(text, found.end())
+        signature_end = re.compile(r"\n\s*(?:requires|ensures)(?: \w+)? \{|\{").search(text, found.end())
         at, clauses = signature_end.start(), {"requires": [], "ensures": []}
-        while clause := re.compile(r"\s*(requires|ensures) (?=\{)").match(text, at):
+        while clause := re.compile(r"\s*(requires|ensures)(?: \w+)? (?=\{)").match(text, at):
             inside, at = balanced(text, clause.end())
             clauses[clause.group(1)].append(" ".join(inside.split()))
         yield found.group(1), text[found.end() : signature_end.start()], clauses
@@ -51,7 +51,7 @@ def definitions():
 
 RECORDS, NAMES = definitions()
 # what an equation is to tell: the answer, a field of it, or what a lent buffer holds in the end
-TOLD = r"(?:r|r \.\S+|now \(\S+ \.exit\))"
+TOLD = r"(?:result|result\.\S+|\S+\.new)"
 SOURCES = "\n".join(p.read_text(encoding="utf-8") for p in sorted(CRATES.glob("*/src/**/*.rt")))
 
 
@@ -87,17 +87,16 @@ def shortcomings(signature, clauses):
         return
     told = " ".join(clauses["ensures"])
     for clause in clauses["ensures"]:
-        fact = re.fullmatch(r"λ \w+\. ⌜ (.*) ⌝", clause)
-        if not fact or not is_equation(fact.group(1), TOLD):
+        if not is_equation(clause, TOLD):
             yield f"promises what is no equation: {clause[:90]}"
     for lent in re.findall(r"(\w+): &(?:'\w+ )?mut", signature):
-        if f"({lent} .exit)" not in told and f"(«{lent}» .exit)" not in told:
+        if not re.search(rf"(?<![\w.]){lent}\.new\b", told):
             yield f"does not say what `{lent}` holds in the end"
     answer = re.search(r"-> (\S.*)", signature)
-    by_field = set(re.findall(r"\br \.«?(\w+)»?", told))
-    if answer and not re.search(r"\br\b", told.replace("λ r.", "")):
+    by_field = set(re.findall(r"\bresult\.(\w+)", told))
+    if answer and not re.search(r"\bresult\b", told):
         yield "does not say what it answers"
-    if answer and by_field and not re.search(r"\br(?! \.)\b", told.replace("λ r.", "")):
+    if answer and by_field and not re.search(r"\bresult\b(?!\.)", told):
         struct = re.search(r"pub struct " + re.escape(answer.group(1)) + r" \{(.*?)\n\}", SOURCES, re.S)
         for field in re.findall(r"pub (\w+):", struct.group(1) if struct else ""):
             if field not in by_field:

@@ -33,9 +33,10 @@ def read_specs():
     for path in ROOT.glob("crates/*/specs/*.antt"):
         crate, file, text = path.parts[-3], path.stem, path.read_text(encoding="utf-8")
         imported, modules, bodies, name = {}, {}, {}, None
-        for c, f, names in re.findall(r"^use Rattle·(\w+?)(?:·specs)?\.specs\.(\w+)\.\{(.*)\}", text, re.M):
-            imported |= {n: (c, f, n) for n in names.split(", ")}
-        for c, f, short in re.findall(r"^use Rattle·(\w+?)(?:·specs)?\.specs\.(\w+) as (\S+)", text, re.M):
+        for c, f, names in re.findall(r"^use Rattle\.(\w+)\.specs\.(\w+)\.\{(.*)\}", text, re.M):
+            if (ROOT / "crates" / c).is_dir():  # what the kit's own libraries have is not told here
+                imported |= {n: (c, f, n) for n in names.split(", ")}
+        for c, f, short in re.findall(r"^use Rattle\.(\w+)\.specs\.(\w+) as (\S+)", text, re.M):
             modules[short] = (c, f)
         for line in text.split("\n"):
             if line.startswith(("use ", "--", "module ", "pub mod ")) or not line.strip():

@@ -1,10 +1,10 @@
-"""The refusals as crates/*/specs define them. A refusal's definition is the one that hands its number to `refuseIf`, and 01's words are
+"""The refusals as crates/*/specs define them. A refusal's definition is the one that hands its number to `refuse_if`, and 01's words are
 quoted in the comments of specs/ as `7: "Channels aren't 1 to 6"`; whether they are 01's own is for a reader to see, who has 01."""
 import re
 from pathlib import Path
 
 ROOT = Path(__file__).resolve().parents[2]
-CRATES = re.findall(r"^(\w+):", (ROOT / "crates.txt").read_text(encoding="utf-8"), re.M)
+CRATES = re.findall(r"^(\w+)(?: staticlib)?:", (ROOT / "crates.txt").read_text(encoding="utf-8"), re.M)
 QUOTE = re.compile(r'(?<!\d)([1-9]\d*):? "(.+?)"(?=[.;)]| \(|$)')
 SIGNATURE = re.compile(r"^ *(?:abbrev |unfoldable )?(?:pub )?(\S+) : .*\n", re.M)
 
@@ -36,10 +36,10 @@ def definitions():
 
 
 def defined():
-    """Of each number: the definitions that hand it to `refuseIf`, themselves or by one that takes the number (`short`, `beyond`)."""
+    """Of each number: the definitions that hand it to `refuse_if`, themselves or by one that takes the number (`short`, `beyond`)."""
     by_file, found = {}, {}
     for where, name, parameters, text in definitions():
-        place_of_number = by_file.setdefault(where, {"refuseIf": 1})
+        place_of_number = by_file.setdefault(where, {"refuse_if": 1})
         for call in re.finditer(r"(?<!\S)\(?(%s) " % "|".join(place_of_number), text):
             given = arguments(text[call.end() :])[place_of_number[call.group(1)]]
             if given in parameters:

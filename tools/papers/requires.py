@@ -18,7 +18,7 @@ def with_requires():
         functions = list(FUNCTION.finditer(text))
         ends = [f.start() for f in functions[1:]] + [len(text)]
         for function, end in zip(functions, ends):
-            if re.search(r"^ *requires \{", text[function.end() : end], re.M):
+            if re.search(r"^ *requires(?: \w+)? \{", text[function.end() : end], re.M):
                 yield path.relative_to(ROOT).parts[1], path.name, function.group(1)
 
 

@@ -4,7 +4,7 @@
     tools/papers/wrong_programs.py            writes them
     tools/papers/wrong_programs.py --check    only compares them
 
-The first lines of an edit are `refusal: N, M` (the refusals of 01 whose condition, number, place or detail it gets wrong; an edit that spoils
+The first lines of an edit are `refusal: N, M` (the refusals whose condition, number, place or detail it gets wrong; an edit that spoils
 all of them alike names none) and `says: ..` (what it does). Definitions and 01's words are found by refusals.py.
 README's number of wrong programs is held too.
 Exit status: 0 all is well; 1 a table or the number differs, or a refusal lacks its words, its definition or a wrong program, or an edit says nothing."""
@@ -12,7 +12,7 @@ import re, sys, textwrap
 from refusals import CRATES, ROOT, defined, files, quoted
 
 PAPER = ROOT / "docs" / "PROOFS.md"
-REFUSALS = range(1, 44)
+REFUSALS = [*range(1, 44), 46]  # 01's, and 46 of 02, which is only of dates that are asked about
 
 
 def edits():
@@ -29,7 +29,7 @@ def linked(where):
 
 
 def refusals_table(all_edits, problems):
-    rows, found, quotes = ["| number | 01's words | definition | wrong programs |", "|---|---|---|---|"], defined(), quoted()
+    rows, found, quotes = ["| number | 01's words (of 46: 02's) | definition | wrong programs |", "|---|---|---|---|"], defined(), quoted()
     for number in REFUSALS:
         places = found.get(number, [])
         words = [quotes[number, where] for where, _ in places if (number, where) in quotes]

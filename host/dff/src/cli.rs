@@ -1,5 +1,6 @@
 //! The command line.
 
+use crate::dates::Date;
 use crate::sizes::Size;
 use crate::times::Time;
 use clap::{Args, Parser, Subcommand, ValueHint};
@@ -22,8 +23,8 @@ pub struct Cli {
 }
 
 const ABOUT: &str = "Makes DSDIFF (.dff) files of DSD and DST sound. Every byte of a file that `dff` writes comes from \
-a writer that is proved against definitions of the format; what `dff` reads of other files (show, verify, cut) is \
-not proved.";
+a writer that is proved against definitions of the format; what `dff` reads of other files (show, comments, \
+verify, cut) is not proved.";
 
 const STATUSES: &str = "\
 Exit status: 0 done, 1 file at fault, 2 usage or manifest, 3 refused, 4 source missing, short or changed, 5 output.
@@ -46,6 +47,9 @@ pub enum Command {
     /// Show the chunks of a .dff file
     #[command(long_about = SHOW, after_help = SHOW_EXAMPLES)]
     Show(ShowArgs),
+    /// List the comments of a .dff file by date, all or those of a window
+    #[command(long_about = COMMENTS, after_help = COMMENTS_EXAMPLES)]
+    Comments(CommentsArgs),
     /// Test a .dff file: sizes, pads, index, CRCs
     #[command(long_about = VERIFY, after_help = VERIFY_EXAMPLES)]
     Verify(VerifyArgs),
@@ -174,6 +178,38 @@ pub struct ShowArgs {
     pub json: bool,
 }
 
+const COMMENTS: &str = "Lists the comments of a .dff file by date, a line each: the earliest first, of one date in the \
+file's order. Behind these stand comments whose date the calendar does not have, with the number of what is wrong with \
+it (34 past a limit, 46 no such date), then undated ones, whose month and day are both 0.
+
+With --from, --to or both only comments with a date in that window are listed, from the minute of --from on and before \
+that of --to. A date alone is its first minute, 00:00: `--to 2025-01-01` takes all of 2024 and nothing of 2025. Undated \
+comments are in no window.
+
+The file is read by a strict walk that is not proved; its dates are judged by the proved library.";
+
+const COMMENTS_EXAMPLES: &str = "Examples:
+  dff comments one.dff
+  dff comments one.dff --from 2024-01-01 --to 2025-01-01   all of 2024
+  dff comments one.dff --from 2024-02-29T18:30             that minute and all after it
+  dff comments one.dff --json | jq .";
+
+#[derive(Args, Debug)]
+pub struct CommentsArgs {
+    /// The .dff file
+    #[arg(value_hint = ValueHint::FilePath)]
+    pub file: PathBuf,
+    /// First minute of the window, as 2024-02-29 or 2024-02-29T18:30 [default: no start]
+    #[arg(long, value_name = "DATE", allow_negative_numbers = true)]
+    pub from: Option<Date>,
+    /// Its end, no longer in it: 2025-01-01 takes all of 2024 [default: no end]
+    #[arg(long, value_name = "DATE", allow_negative_numbers = true)]
+    pub to: Option<Date>,
+    /// Print JSON
+    #[arg(long)]
+    pub json: bool,
+}
+
 const VERIFY: &str = "Tests a .dff file: chunks and their sizes, pads, the index's entries, and the frames' CRCs \
 where the plain content is at hand. The file is read by a strict walk that is not proved.";
 
@@ -192,7 +228,7 @@ pub struct VerifyArgs {
 }
 
 const EXPLAIN: &str = "Explains a refusal: its number, the contract's words, what to do about it, and the \
-definition that says when it is given. Without a number, a line for each.";
+definition that says when it is given. Without a number, a line for each of a build or a read.";
 
 const EXPLAIN_EXAMPLES: &str = "Examples:
   dff explain
@@ -200,9 +236,16 @@ const EXPLAIN_EXAMPLES: &str = "Examples:
 
 #[derive(Args, Debug)]
 pub struct ExplainArgs {
-    /// The refusal's number, 1 to 43
-    #[arg(value_parser = clap::value_parser!(u32).range(1..=43))]
+    /// The refusal's number, 1 to 43; or 46, which is of dates alone
+    #[arg(value_parser = refusal)]
     pub number: Option<u32>,
+}
+
+fn refusal(text: &str) -> Result<u32, String> {
+    match text.parse::<u32>() {
+        Ok(number @ (1..=43 | 46)) => Ok(number),
+        _ => Err(format!("{text} is not in 1..=43, and not 46")),
+    }
 }
 
 const SAMPLE: &str = "Makes a short recording of its own in DIR: two seconds of a tone for each of two channels, \

@@ -2,6 +2,7 @@
 
 pub mod build;
 pub mod check;
+pub mod comments;
 pub mod completions;
 pub mod cut;
 pub mod explain;
@@ -19,6 +20,7 @@ pub fn run(command: Command, ui: &Ui) -> Result<(), Fault> {
         Command::Cut(args) => cut::run(args, ui),
         Command::Check(args) => check::run(args, ui),
         Command::Show(args) => show::run(args, ui),
+        Command::Comments(args) => comments::run(args, ui),
         Command::Verify(args) => verify::run(args, ui),
         Command::Explain(args) => explain::run(args, ui),
         Command::Sample(args) => sample::run(args, ui),

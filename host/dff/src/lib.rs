@@ -8,6 +8,7 @@ pub mod carry;
 pub mod cli;
 pub mod commands;
 pub mod copy;
+pub mod dates;
 pub mod folder;
 pub mod limit;
 pub mod manifest;
@@ -48,7 +49,7 @@ pub fn run_into<A: IntoIterator<Item = OsString>>(args: A, out: &mut dyn Write, 
         Err(error) => return status::usage(&error, out, err),
     };
     let result = {
-        let ui = Ui::new(cli.quiet, cli.force, out);
+        let ui = Ui::new(cli.quiet, cli.force, out).noting(&mut *err);
         commands::run(cli.command, &ui).and_then(|()| ui.flush())
     };
     match result {

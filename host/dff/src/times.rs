@@ -39,7 +39,7 @@ impl FromStr for Time {
 }
 
 /// Decimal digits only: no sign, no space.
-fn number(text: &str) -> Option<u32> {
+pub fn number(text: &str) -> Option<u32> {
     if text.bytes().all(|byte| byte.is_ascii_digit()) { text.parse().ok() } else { None }
 }
 

@@ -10,11 +10,17 @@ pub struct Ui<'a> {
     pub quiet: bool,
     pub force: bool,
     out: RefCell<&'a mut dyn Write>,
+    notes: Option<RefCell<&'a mut dyn Write>>,
 }
 
 impl<'a> Ui<'a> {
     pub fn new(quiet: bool, force: bool, out: &'a mut dyn Write) -> Ui<'a> {
-        Ui { quiet, force, out: RefCell::new(out) }
+        Ui { quiet, force, out: RefCell::new(out), notes: None }
+    }
+
+    /// The same, with its notes written to `err`; else there are none.
+    pub fn noting(self, err: &'a mut dyn Write) -> Ui<'a> {
+        Ui { notes: Some(RefCell::new(err)), ..self }
     }
 
     /// The answer that was asked for, printed with `--quiet` too. A reader that has had enough is no fault.
@@ -25,6 +31,15 @@ impl<'a> Ui<'a> {
     /// A line about what was done; none with `--quiet`.
     pub fn say(&self, line: &str) -> Result<(), Fault> {
         if self.quiet { Ok(()) } else { self.print(&format!("{}\n", printable(line))) }
+    }
+
+    /// A line beside the answer, apart from it; none with `--quiet`. Where that fails there is nobody left to tell.
+    pub fn note(&self, line: &str) {
+        if let Some(notes) = self.notes.as_ref().filter(|_| !self.quiet) {
+            let mut notes = notes.borrow_mut();
+            let _ = notes.write_all(format!("dff: note: {}\n", printable(line)).as_bytes());
+            let _ = notes.flush();
+        }
     }
 
     pub fn flush(&self) -> Result<(), Fault> {

@@ -1,5 +1,7 @@
 //! What a file tells beside its sound: markers, comments, texts, chunks of the caller, and the chunks of an order.
 
+use crate::dates::Stamp;
+
 /// A marker, if markers are not made from tracks.
 #[derive(Clone, Debug, PartialEq, Eq)]
 pub struct Marker {
@@ -46,6 +48,14 @@ pub struct Comment {
     pub reference: u32,
     /// Up to 1,048,576 characters, converted as all texts are.
     pub text: String,
+}
+
+impl Comment {
+    /// Its date and time.
+    pub fn stamp(&self) -> Stamp {
+        let Comment { year, month, day, hour, minutes, .. } = *self;
+        Stamp { year, month, day, hour, minutes }
+    }
 }
 
 /// What a comment is about.

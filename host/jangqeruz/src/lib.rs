@@ -41,6 +41,9 @@
 //! # }
 //! ```
 //!
+//! Whether a date is one of the calendar is told by [`date_fault`] and [`note_fault`], and whether a comment falls in a
+//! window of dates by [`falls_in`]; a build takes comments with other dates too.
+//!
 //! Nothing here decides about the bytes of a file: words, texts and frames are handed to the library as they are. What
 //! is proved of it, and what that rests on, stands in the repository's documents. This crate itself is plain Rust, not
 //! proved. No input makes it panic.
@@ -50,6 +53,7 @@
 
 mod area;
 mod chunks;
+mod dates;
 mod errors;
 mod file;
 mod limit;
@@ -69,6 +73,7 @@ pub use chunks::{
     ArtistTitle, ArtistTitleSource, CallerChunk, Comment, CommentKind, IndexOffset, InfoChunk, LocalChunk, Marker,
     MarkerKind, PropertyChunk, text_bytes,
 };
+pub use dates::{DateError, DateRefusal, Stamp, date_fault, earlier, falls_in, note_fault};
 pub use errors::{BuildError, Measured, ReadError};
 pub use file::File;
 pub use limit::given_bytes;

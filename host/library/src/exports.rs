@@ -179,6 +179,19 @@ unsafe extern "C" {
         text_pad_counted: bool,
     ) -> usize;
 
+    pub fn jangqeruz_date_fault(date: *const [u32; 5]) -> u64;
+
+    pub fn jangqeruz_note_fault(note: *const [u32; 5]) -> u64;
+
+    pub fn jangqeruz_earlier(a: *const [u32; 5], b: *const [u32; 5]) -> bool;
+
+    pub fn jangqeruz_falls_in(
+        falls: *mut [u64; 1],
+        start: *const [u32; 5],
+        end: *const [u32; 5],
+        note: *const [u32; 5],
+    ) -> u64;
+
     pub fn jangqeruz_crc(content: *const u8, content_len: usize) -> u32;
 
     pub fn jangqeruz_dst_head(

@@ -1,8 +1,9 @@
-//! This repository's functions, from the static library that `rt staticlib abi` writes: the declarations (`exports`)
-//! and names (`names`), and a safe wrapper for each function. All `unsafe` is here.
+//! This repository's functions, from the static library that host/library/archive.sh writes: the declarations
+//! (`exports`) and names (`names`), and a safe wrapper for each function. All `unsafe` is here.
 
 pub mod builds;
 pub mod checks;
+pub mod dates;
 #[rustfmt::skip]
 mod exports;
 pub mod markers;

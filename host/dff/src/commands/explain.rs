@@ -2,7 +2,7 @@
 
 use crate::cli::ExplainArgs;
 use crate::{Fault, Ui};
-use jangqeruz::Refusal;
+use jangqeruz::{DateRefusal, Refusal};
 
 pub fn run(args: ExplainArgs, ui: &Ui) -> Result<(), Fault> {
     match args.number {
@@ -10,6 +10,16 @@ pub fn run(args: ExplainArgs, ui: &Ui) -> Result<(), Fault> {
             let lines: String =
                 Refusal::all().iter().map(|refusal| format!("{:2}  {}\n", refusal.number(), refusal.words())).collect();
             ui.print(&lines)
+        }
+        Some(46) => {
+            let refusal = DateRefusal::NoSuchDate;
+            ui.print(&format!(
+                "refusal 46: {}\n  remedy: {}\n  definition: {}\n  only of dates and windows that are asked about, as by \
+                 `dff comments`; a build takes such a comment\n",
+                refusal.words(),
+                refusal.remedy(),
+                refusal.definition()
+            ))
         }
         Some(number) => match Refusal::new(u64::from(number), 0) {
             Some(refusal) => ui.print(&format!(

@@ -1,5 +1,6 @@
 //! Tests of the crate over the compiled library.
 
+mod dates;
 mod draw;
 mod draws;
 mod figures;

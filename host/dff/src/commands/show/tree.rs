@@ -1,7 +1,9 @@
 //! The tree of a walk, with the values of its chunks.
 
+use super::comment;
 use super::node::{IndexShown, Node, WrongShown};
-use super::words::{VERSION, comment_kind, count, latin, marker_kind, quoted, speakers, version};
+use super::words::{VERSION, count, latin, marker_kind, quoted, speakers, version};
+use crate::dates;
 use serde_json::{Value, json};
 use walk::{Chunk, Comment, Crc, Field, Leads, Marker, Sound, SoundKind, Text, Time, Walk};
 
@@ -179,27 +181,13 @@ fn marker_told(walk: &Walk, marker: &Marker) -> Told {
 }
 
 fn comments_told(comments: &[Comment]) -> Told {
-    let value = comments.iter().map(|comment| {
-        json!({
-            "place": comment.place,
-            "year": comment.year,
-            "month": comment.month,
-            "day": comment.day,
-            "hour": comment.hour,
-            "minutes": comment.minutes,
-            "kind": comment.kind,
-            "kind_name": comment_kind(comment.kind),
-            "reference": comment.reference,
-            "text": latin(&comment.text.bytes),
-        })
-    });
+    let value: Vec<Value> = comments.iter().map(comment::json).collect();
     let lines = comments.iter().map(|comment| {
-        let Comment { place, year, month, day, hour, minutes, kind, reference, text } = comment;
-        let date = format!("{year:04}-{month:02}-{day:02} {hour:02}:{minutes:02}");
-        format!("at {place}: {date}, {} {reference}: {}", comment_kind(*kind), quoted(&text.bytes))
+        let (place, date) = (comment.place, dates::words(dates::of(comment)));
+        format!("at {place}: {date}, {}", comment::words(comment))
     });
     Told {
-        value: json!({ "comments": value.collect::<Vec<_>>() }),
+        value: json!({ "comments": value }),
         words: count(comments.len() as u64, "comment", "comments"),
         lines: lines.collect(),
     }

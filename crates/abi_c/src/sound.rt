@@ -1,0 +1,102 @@
+// sound.rt of abi, for C.
+ghost use Rattle.std.specs.Prelude.{◌≡◌, [], ◌∷◌, ◌*◌, eqb, length, replicate};
+ghost use Rattle.chunk.specs.Append.{Appended, moved};
+ghost use Rattle.checksum.specs.Crc.{crc_of};
+ghost use Rattle.dst.specs.Frame.{frame_bytes, plain_bytes, dsd_sound};
+ghost use Rattle.dst.specs.Unit.{sound, sizes};
+ghost use Rattle.sound_reads.specs.Positions.{positions_for, number, between};
+ghost use Rattle.dst.specs.Head.{head};
+ghost use Rattle.dst_index.specs.Index.{shift_of, index};
+ghost use Rattle.sound_reads.specs.Lent.{is_lent, frames_with, contents_with};
+ghost use Rattle.meanings.specs.Sound.{offset_of};
+ghost use Rattle.abi.specs.Sound.{Count};
+
+#[unsafe(no_mangle)]
+pub extern "C" fn jangqeruz_crc(content: &[u8]) -> u32
+    ensures { result ≡ crc_of content.now }
+{
+    abi::sound::jangqeruz_crc(content)
+}
+
+#[unsafe(no_mangle)]
+pub extern "C" fn jangqeruz_dst_head(out: &mut [u8], crc: bool, lengths: &[u32]) -> usize
+    ensures { Appended out.old 0 (head crc lengths.now) out.new result }
+{
+    abi::sound::jangqeruz_dst_head(out, crc, lengths)
+}
+
+#[unsafe(no_mangle)]
+pub extern "C" fn jangqeruz_dst_index(
+    out: &mut [u8],
+    crc: bool,
+    frame_data: bool,
+    base: u64,
+    lengths: &[u32],
+) -> usize
+    ensures { Appended out.old 0 (index crc (moved base (shift_of (offset_of frame_data))) lengths.now) out.new result }
+{
+    abi::sound::jangqeruz_dst_index(out, crc, frame_data, base, lengths)
+}
+
+#[unsafe(no_mangle)]
+pub extern "C" fn jangqeruz_dst_positions(
+    range: &mut [usize; 2],
+    crc: bool,
+    lengths: &[u32],
+    from: u64,
+    count: u64,
+)
+    ensures { range.new ≡ (positions_for (sizes crc lengths.now) from count).first ∷ (positions_for (sizes crc lengths.now) from count).end ∷ [] }
+{
+    abi::sound::jangqeruz_dst_positions(range, crc, lengths, from, count);
+}
+
+#[unsafe(no_mangle)]
+pub extern "C" fn jangqeruz_dsd_positions(
+    range: &mut [usize; 2],
+    channels: u8,
+    n: u32,
+    from: u64,
+    count: u64,
+)
+    ensures { range.new ≡ (positions_for (replicate n (frame_bytes channels)) from count).first ∷ (positions_for (replicate n (frame_bytes channels)) from count).end ∷ [] }
+{
+    abi::sound::jangqeruz_dsd_positions(range, channels, n, from, count);
+}
+
+#[unsafe(no_mangle)]
+pub extern "C" fn jangqeruz_dst_fill(
+    out: &mut [u8],
+    skip: u64,
+    crc: bool,
+    channels: u8,
+    lengths: &[u32],
+    lent: &[u32],
+    frames: &[u8],
+    contents: &[u8],
+) -> usize
+    ensures { Count
+        (is_lent (plain_bytes crc channels) (between (positions_for (sizes crc lengths.now) skip (length out.old)) lengths.now)
+        lent.now frames.now contents.now)
+        (sound crc (frames_with (plain_bytes crc channels) (positions_for (sizes crc lengths.now) skip (length out.old)) lengths.now
+        frames.now contents.now))
+        skip out.old out.new result }
+{
+    abi::sound::jangqeruz_dst_fill(out, skip, crc, channels, lengths, lent, frames, contents)
+}
+
+#[unsafe(no_mangle)]
+pub extern "C" fn jangqeruz_dsd_fill(
+    out: &mut [u8],
+    skip: u64,
+    channels: u8,
+    n: u32,
+    contents: &[u8],
+) -> usize
+    ensures { Count
+        (eqb (frame_bytes channels * number (positions_for (replicate n (frame_bytes channels)) skip (length out.old))) (length contents.now))
+        (dsd_sound (contents_with (frame_bytes channels) (positions_for (replicate n (frame_bytes channels)) skip (length out.old)) n contents.now))
+        skip out.old out.new result }
+{
+    abi::sound::jangqeruz_dsd_fill(out, skip, channels, n, contents)
+}

@@ -1,0 +1,79 @@
+// text.rt of abi, for C.
+ghost use Rattle.chunk.specs.Append.{Appended};
+ghost use Rattle.texts.specs.Extent.{part};
+ghost use Rattle.texts.specs.Text.{text_bytes};
+ghost use Rattle.diin_texts.specs.DiinText.{diin_text};
+ghost use Rattle.comt.specs.Comment.{comt};
+ghost use Rattle.meanings.specs.Text.{rule_of, options_of, text_of};
+
+#[unsafe(no_mangle)]
+pub extern "C" fn jangqeruz_text_bytes(
+    out: &mut [u8],
+    pool: &[u32],
+    start: u32,
+    length: u32,
+    rule_number: u8,
+    replacement: u8,
+) -> usize
+    ensures { Appended out.old 0 (text_bytes (rule_of rule_number replacement) (part pool.now (record { start = start; length = length }))) out.new result }
+{
+    abi::text::jangqeruz_text_bytes(out, pool, start, length, rule_number, replacement)
+}
+
+#[unsafe(no_mangle)]
+pub extern "C" fn jangqeruz_diin_text(
+    out: &mut [u8],
+    id: &[u8; 4],
+    pool: &[u32],
+    given: bool,
+    start: u32,
+    length: u32,
+    rule_number: u8,
+    replacement: u8,
+    empty_text: bool,
+    text_pad_counted: bool,
+) -> usize
+    ensures { Appended out.old 0
+        (diin_text id.now pool.now (text_of given start length)
+        (options_of rule_number replacement empty_text text_pad_counted))
+        out.new result }
+{
+    abi::text::jangqeruz_diin_text(
+        out,
+        id,
+        pool,
+        given,
+        start,
+        length,
+        rule_number,
+        replacement,
+        empty_text,
+        text_pad_counted,
+    )
+}
+
+#[unsafe(no_mangle)]
+pub extern "C" fn jangqeruz_comt(
+    out: &mut [u8],
+    pool: &[u32],
+    rows: &[u32],
+    rule_number: u8,
+    replacement: u8,
+    empty_text: bool,
+    text_pad_counted: bool,
+) -> usize
+    ensures { Appended out.old 0
+        (comt pool.now rows.now
+        (options_of rule_number replacement empty_text text_pad_counted))
+        out.new result }
+{
+    abi::text::jangqeruz_comt(
+        out,
+        pool,
+        rows,
+        rule_number,
+        replacement,
+        empty_text,
+        text_pad_counted,
+    )
+}
