@@ -1,0 +1,20 @@
+-- `fill::fill_around` meets its contract. Assumes nothing.
+use Prim.Native.Nat.{◌*◌, ◌^◌, ◌<◌}
+use native.Mathlib.Nat.{mul_comm}
+use native.Mathlib.Omega.{arith}
+use Rattle.chunk.proofs.AppendLaws.{◌then◌}
+use Rattle.dst.specs.Frame.{frame_bytes}
+use Rattle.dst.proofs.FrameLaws.{sound-short}
+use Rattle.build_options.specs.Area.{area_positions}
+use borrow.Author.Rules.{rules}
+use Rattle.header_trailer.proofs.FillLaws.{filled}
+use Rattle.header_trailer.proofs.fill.fill_around.Goals as goal
+
+-- DSD sound fits a u64
+short : (s : tie.Start) → area_positions s.args.area * frame_bytes s.args.area.channels < 2 ^ 64
+short s =
+    rw mul_comm (omega (arith, sound-short s.args.area.channels (area_positions s.args.area) (search rules) (search rules)))
+
+pub returns : goal.returns
+returns c = let low = short c⟨Start⟩ in
+    filled _ _ _ low c.sound_size-sound.ensures c.plus-size.ensures c.new-start.ensures (c.chunk_head-c.ensures then c.front_sized.ensures) c.back.ensures

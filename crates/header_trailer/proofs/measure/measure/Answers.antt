@@ -1,0 +1,10 @@
+-- `measure::measure` meets its contract. Assumes nothing.
+use Rattle.file_tree.proofs.FileLaws.{length-front-sized}
+use Rattle.header_trailer.proofs.measure.measure.Goals as goal
+
+pub returns : goal.returns
+returns c = record {
+  orders = record { property = c.well_formed.1.1.0.1.0.1; info = c.well_formed.1.1.1.0.1.0.1; local = c.well_formed.1.1.1.1.0.1.0.1 };
+  front = rw (c.new-start.ensures, length-front-sized) at c.front_sized-front.ensures.place;
+  back = rw c.new-start.ensures at c.back-back.ensures.place;
+}
