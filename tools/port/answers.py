@@ -102,6 +102,7 @@ class Places:
                 return None, ".".join([new] + self.step(p, rest))
             at = p[1]
         # names of another kit between: by the step's first word
+        head = re.sub(r"_lem$", "", head)
         near = [p for p in self.places.values() if p[2] and p[2][0] and alike(p[2][0]) == alike(head)]
         near = near or [p for p in self.places.values() if p[2] and p[2][1] and (alike(p[2][1]) + "_").startswith(alike(re.sub(r"\d+$", "", head)) + "_")]
         if near:

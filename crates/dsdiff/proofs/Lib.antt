@@ -1,4 +1,3 @@
 pub mod MarkerLaws
 pub mod TableLaws
-pub mod Zeros
 pub mod WholeLaws

@@ -28,12 +28,16 @@ module _ (known : Name → Name → Bool) (q : Properties) where
   -- the chunks have as many names as ranks
   ranked : (d c : PropertyChunk) → cond (same (id_of c) (id_of d)) (reported c) [] ≡ cond (eqb (property_rank c) (property_rank d)) (reported d) []
   unfolding id_of same is_property_written property_value
-  ranked SampleRate c = elim c [ SampleRate ↦ refl | Channels ↦ refl | CompressionType ↦ refl | AbsoluteStartTime ↦ refl | LoudspeakerConfiguration ↦ refl ]
-  ranked Channels c = elim c [ SampleRate ↦ refl | Channels ↦ refl | CompressionType ↦ refl | AbsoluteStartTime ↦ refl | LoudspeakerConfiguration ↦ refl ]
-  ranked CompressionType c = elim c [ SampleRate ↦ refl | Channels ↦ refl | CompressionType ↦ refl | AbsoluteStartTime ↦ refl | LoudspeakerConfiguration ↦ refl ]
-  ranked AbsoluteStartTime c = elim c [ SampleRate ↦ refl | Channels ↦ refl | CompressionType ↦ refl | AbsoluteStartTime ↦ refl | LoudspeakerConfiguration ↦ refl ]
-  ranked LoudspeakerConfiguration c =
-      elim c [ SampleRate ↦ refl | Channels ↦ refl | CompressionType ↦ refl | AbsoluteStartTime ↦ refl | LoudspeakerConfiguration ↦ refl ]
+  ranked SampleRate SampleRate = refl
+  ranked SampleRate _ = refl
+  ranked Channels Channels = refl
+  ranked Channels _ = refl
+  ranked CompressionType CompressionType = refl
+  ranked CompressionType _ = refl
+  ranked AbsoluteStartTime AbsoluteStartTime = refl
+  ranked AbsoluteStartTime _ = refl
+  ranked LoudspeakerConfiguration LoudspeakerConfiguration = refl
+  ranked LoudspeakerConfiguration _ = refl
 
   pub found-properties : (d : PropertyChunk) → Known known (ascii "PROP") (id_of d) → is_property_written q d ≡ true
       → (order : List PropertyChunk) → times (map property_rank order) (property_rank d) ≡ 1

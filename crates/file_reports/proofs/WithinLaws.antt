@@ -23,15 +23,19 @@ pub record Within (s : Sound) (d : LocalChunk) (p n : Name) : Type 0 where
   pub callers : (name : Name) → reserved name ≡ false → sought p n (ascii "FRM8") name ≡ false
   pub local : (c : LocalChunk) → (sought p n (ascii "FRM8") (local_name s c) || same (local_name s c) p) ≡ eqb (local_rank c) (local_rank d)
 
+-- of a local chunk: it, or a chunk in it, is sought just where it is d
+abbrev Local : Sound → LocalChunk → Name → Name → LocalChunk → Type 0
+Local s d p n c = (sought p n (ascii "FRM8") (local_name s c) || same (local_name s c) p) ≡ eqb (local_rank c) (local_rank d)
+
 pub in_property : (s : Sound) (n : Name) → Within s Property (ascii "PROP") n
 unfolding same
 in_property s n = record {
   form = refl;
   version = refl;
   callers = λ name free. refl;
-  local = λ c. elim c [
+  local = λ c. elim c as (λ (k : LocalChunk). Local s Property (ascii "PROP") n k) [
     | Property ↦ refl
-    | SoundData ↦ elim s [ Dsd ↦ refl | Dst ↦ refl ]
+    | SoundData ↦ elim s as (λ (t : Sound). Local t Property (ascii "PROP") n SoundData) [ Dsd ↦ refl | Dst ↦ refl ]
     | DstIndex ↦ refl
     | EditedMasterInfo ↦ refl
     | Comments ↦ refl
@@ -44,9 +48,9 @@ is-index s = record {
   form = refl;
   version = refl;
   callers = λ name free. none-among name reserved_names free 5 (omega arith);
-  local = λ c. elim c [
+  local = λ c. elim c as (λ (k : LocalChunk). Local s DstIndex (ascii "FRM8") (ascii "DSTI") k) [
     | Property ↦ refl
-    | SoundData ↦ elim s [ Dsd ↦ refl | Dst ↦ refl ]
+    | SoundData ↦ elim s as (λ (t : Sound). Local t DstIndex (ascii "FRM8") (ascii "DSTI") SoundData) [ Dsd ↦ refl | Dst ↦ refl ]
     | DstIndex ↦ refl
     | EditedMasterInfo ↦ refl
     | Comments ↦ refl
@@ -59,7 +63,7 @@ is-dsd = record {
   form = refl;
   version = refl;
   callers = λ name free. none-among name reserved_names free 3 (omega arith);
-  local = λ c. elim c [ Property ↦ refl | SoundData ↦ refl | DstIndex ↦ refl | EditedMasterInfo ↦ refl | Comments ↦ refl ];
+  local = λ c. elim c as (λ (k : LocalChunk). Local Dsd SoundData (ascii "FRM8") (ascii "DSD ") k) [ Property ↦ refl | SoundData ↦ refl | DstIndex ↦ refl | EditedMasterInfo ↦ refl | Comments ↦ refl ];
 }
 
 pub in_dst : (n : Name) → Within Dst SoundData (ascii "DST ") n
@@ -68,7 +72,7 @@ in_dst n = record {
   form = refl;
   version = refl;
   callers = λ name free. refl;
-  local = λ c. elim c [ Property ↦ refl | SoundData ↦ refl | DstIndex ↦ refl | EditedMasterInfo ↦ refl | Comments ↦ refl ];
+  local = λ c. elim c as (λ (k : LocalChunk). Local Dst SoundData (ascii "DST ") n k) [ Property ↦ refl | SoundData ↦ refl | DstIndex ↦ refl | EditedMasterInfo ↦ refl | Comments ↦ refl ];
 }
 
 -- a local chunk, by its rank
@@ -78,7 +82,11 @@ chunk_at rank =
 
 at_rank : (c : LocalChunk) → chunk_at (local_rank c) ≡ c
 unfolding chunk_at
-at_rank c = elim c [ Property ↦ refl | SoundData ↦ refl | DstIndex ↦ refl | EditedMasterInfo ↦ refl | Comments ↦ refl ]
+at_rank Property = refl
+at_rank SoundData = refl
+at_rank DstIndex = refl
+at_rank EditedMasterInfo = refl
+at_rank Comments = refl
 
 pub same_rank : (c d : LocalChunk) → eqb (local_rank c) (local_rank d) ≡ true → c ≡ d
 same_rank c d e = sym (at_rank c) ∙ ap chunk_at (eqb-true (local_rank c) (local_rank d) e) ∙ at_rank d

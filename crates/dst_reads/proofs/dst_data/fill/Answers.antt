@@ -1,5 +1,5 @@
 -- `dst_data::fill` meets its contract. Assumes nothing.
-use mathlib.Core.Bool.{true}
+use mathlib.Core.Bool.{Bool}
 use mathlib.Core.Path.{◌≡◌, refl, sym, ◌∙◌}
 use Prim.Native.Nat.{ℕ, ◌-◌, ◌≤◌}
 use mathlib.Core.List.{List}
@@ -8,7 +8,7 @@ use Rattle.sound_reads.specs.declared.place.Positions.{Positions}
 use Rattle.sound_reads.specs.Place.{place_of}
 use Rattle.sound_reads.specs.Steps.{byte_at}
 use native.Mathlib.Omega.{arith}
-use lib.ListN.{length}
+use lib.ListN.{length, take, drop}
 use borrow.Author.Rules.{rules}
 use Rattle.sound_reads.specs.Lent.{is_lent}
 use Rattle.sound_reads.specs.Positions.{positions_for, between}
@@ -24,69 +24,55 @@ wanted : (ss : List ℕ) (skip n free : ℕ) (place : Place) (p : Positions)
     → place ≡ place_of ss skip → free ≡ n → p ≡ positions_for ss (byte_at ss place) free → p ≡ positions_for ss skip n
 wanted ss skip n free place p e f t = rw (← byte_at_lem ss skip, ← e, ← f) t
 
+known : (crc : Bool) (ls : List ℕ) (skip n : ℕ) (p : Positions) → p ≡ positions_for (sizes crc ls) skip n
+    → (p.first ≤ p.end) × (p.end ≤ length ls)
+known crc ls skip n p e = rw e (needed-known crc ls skip n)
+
+-- the test is of what those positions have
+tested : (ls lent frames contents : List ℕ) (bytes n : ℕ) (p q : Positions) (given : Bool) → p ≡ q → n ≡ bytes
+    → given ≡ is_lent n (take (p.end - p.first) (drop p.first ls)) lent frames contents
+    → given ≡ is_lent bytes (between q ls) lent frames contents
+tested ls lent frames contents bytes n p q given e b t = rw (← e, ← b, ← mid_slice p.first p.end ls) t
+
 pub touched-p-requires : goal.touched-p-requires
 touched-p-requires c = rw c.locate-place.ensures (inside (sizes c.args.crc c.args.lengths.now) c.args.w.skip)
 
 pub offset_bounds-lengths-first : goal.offset_bounds-lengths-first
 offset_bounds-lengths-first c =
-    let found : c.touched-p.result ≡ positions_for (sizes c.args.crc c.args.lengths.now) c.args.w.skip (length c.args.out.now - c.args.w.at) =
-    wanted (sizes c.args.crc c.args.lengths.now) c.args.w.skip (length c.args.out.now - c.args.w.at) c.room-free.result c.locate-place.result c.touched-p.result c.locate-place.ensures c.room-free.ensures c.touched-p.ensures in
-    let k : (c.touched-p.result.first ≤ c.touched-p.result.end) × (c.touched-p.result.end ≤ length c.args.lengths.now) =
-    rw found (needed-known c.args.crc c.args.lengths.now c.args.w.skip (length c.args.out.now - c.args.w.at)) in
+    let k = known _ _ _ _ _ (wanted _ _ _ _ _ _ c.locate-place.ensures c.room-free.ensures c.touched-p.ensures) in
     let h : c.touched-p.result.first ≤ length c.args.lengths.now = omega (arith, k.0, k.1) in
     search rules
 
 pub slice_bounds-is_lent-count : goal.slice_bounds-is_lent-count
 slice_bounds-is_lent-count c =
-    let found : c.touched-p.result ≡ positions_for (sizes c.args.crc c.args.lengths.now) c.args.w.skip (length c.args.out.now - c.args.w.at) =
-    wanted (sizes c.args.crc c.args.lengths.now) c.args.w.skip (length c.args.out.now - c.args.w.at) c.room-free.result c.locate-place.result c.touched-p.result c.locate-place.ensures c.room-free.ensures c.touched-p.ensures in
-    let k : (c.touched-p.result.first ≤ c.touched-p.result.end) × (c.touched-p.result.end ≤ length c.args.lengths.now) =
-    rw found (needed-known c.args.crc c.args.lengths.now c.args.w.skip (length c.args.out.now - c.args.w.at)) in
+    let k = known _ _ _ _ _ (wanted _ _ _ _ _ _ c.locate-place.ensures c.room-free.ensures c.touched-p.ensures) in
     omega (arith, k.0)
 
 pub slice_bounds-is_lent-start : goal.slice_bounds-is_lent-start
 slice_bounds-is_lent-start c =
-    let found : c.touched-p.result ≡ positions_for (sizes c.args.crc c.args.lengths.now) c.args.w.skip (length c.args.out.now - c.args.w.at) =
-    wanted (sizes c.args.crc c.args.lengths.now) c.args.w.skip (length c.args.out.now - c.args.w.at) c.room-free.result c.locate-place.result c.touched-p.result c.locate-place.ensures c.room-free.ensures c.touched-p.ensures in
-    let k : (c.touched-p.result.first ≤ c.touched-p.result.end) × (c.touched-p.result.end ≤ length c.args.lengths.now) =
-    rw found (needed-known c.args.crc c.args.lengths.now c.args.w.skip (length c.args.out.now - c.args.w.at)) in
+    let k = known _ _ _ _ _ (wanted _ _ _ _ _ _ c.locate-place.ensures c.room-free.ensures c.touched-p.ensures) in
     omega (arith, k.0)
 
 pub slice_bounds-is_lent-end : goal.slice_bounds-is_lent-end
 slice_bounds-is_lent-end c =
-    let found : c.touched-p.result ≡ positions_for (sizes c.args.crc c.args.lengths.now) c.args.w.skip (length c.args.out.now - c.args.w.at) =
-    wanted (sizes c.args.crc c.args.lengths.now) c.args.w.skip (length c.args.out.now - c.args.w.at) c.room-free.result c.locate-place.result c.touched-p.result c.locate-place.ensures c.room-free.ensures c.touched-p.ensures in
-    let k : (c.touched-p.result.first ≤ c.touched-p.result.end) × (c.touched-p.result.end ≤ length c.args.lengths.now) =
-    rw found (needed-known c.args.crc c.args.lengths.now c.args.w.skip (length c.args.out.now - c.args.w.at)) in
+    let k = known _ _ _ _ _ (wanted _ _ _ _ _ _ c.locate-place.ensures c.room-free.ensures c.touched-p.ensures) in
     omega (arith, k.1)
 
 pub returns-then-not-is_lent : goal.returns-then-not-is_lent
 returns-then-not-is_lent c =
-    let found : c.touched-p.result ≡ positions_for (sizes c.args.crc c.args.lengths.now) c.args.w.skip (length c.args.out.now - c.args.w.at) =
-    wanted (sizes c.args.crc c.args.lengths.now) c.args.w.skip (length c.args.out.now - c.args.w.at) c.room-free.result c.locate-place.result c.touched-p.result c.locate-place.ensures c.room-free.ensures c.touched-p.ensures in
-    let l : c.is_lent.result ≡ is_lent (plain_bytes c.args.crc c.args.channels) (between (positions_for (sizes c.args.crc c.args.lengths.now) c.args.w.skip (length c.args.out.now - c.args.w.at)) c.args.lengths.now) c.args.lent.now c.args.frames.now c.args.contents.now =
-    rw (← found, ← c.plain_bytes-n.ensures, ← mid_slice c.touched-p.result.first c.touched-p.result.end c.args.lengths.now) c.is_lent.ensures in
+    let l = tested _ _ _ _ _ _ _ _ _ (wanted _ _ _ _ _ _ c.locate-place.ensures c.room-free.ensures c.touched-p.ensures) c.plain_bytes-n.ensures c.is_lent.ensures in
     rw (sym l ∙ c.if-not-is_lent.true) (record { answer = refl; buffer = refl })
 
 pub units-v-requires : goal.units-v-requires
 units-v-requires c =
-    let found : c.touched-p.result ≡ positions_for (sizes c.args.crc c.args.lengths.now) c.args.w.skip (length c.args.out.now - c.args.w.at) =
-    wanted (sizes c.args.crc c.args.lengths.now) c.args.w.skip (length c.args.out.now - c.args.w.at) c.room-free.result c.locate-place.result c.touched-p.result c.locate-place.ensures c.room-free.ensures c.touched-p.ensures in
-    let l : c.is_lent.result ≡ is_lent (plain_bytes c.args.crc c.args.channels) (between (positions_for (sizes c.args.crc c.args.lengths.now) c.args.w.skip (length c.args.out.now - c.args.w.at)) c.args.lengths.now) c.args.lent.now c.args.frames.now c.args.contents.now =
-    rw (← found, ← c.plain_bytes-n.ensures, ← mid_slice c.touched-p.result.first c.touched-p.result.end c.args.lengths.now) c.is_lent.ensures in
-    let given : is_lent (plain_bytes c.args.crc c.args.channels) (between (positions_for (sizes c.args.crc c.args.lengths.now) c.args.w.skip (length c.args.out.now - c.args.w.at)) c.args.lengths.now) c.args.lent.now c.args.frames.now c.args.contents.now ≡ true =
-    sym l ∙ c.if-not-is_lent.false in
-    let l = lent-lengths (plain_bytes c.args.crc c.args.channels) _ c.args.lent.now c.args.frames.now c.args.contents.now given in
-    record { lengths_value = rw l.0 l.1.0; lengths_value_2 = rw (l.0, c.plain_bytes-n.ensures) l.1.1 }
+    let l = tested _ _ _ _ _ _ _ _ _ (wanted _ _ _ _ _ _ c.locate-place.ensures c.room-free.ensures c.touched-p.ensures) c.plain_bytes-n.ensures c.is_lent.ensures in
+    let q = lent-lengths _ _ _ _ _ (sym l ∙ c.if-not-is_lent.false) in
+    record { lengths_value = rw q.0 q.1.0; lengths_value_2 = rw (q.0, c.plain_bytes-n.ensures) q.1.1 }
 
 pub returns : goal.returns
 returns c =
-    let found : c.touched-p.result ≡ positions_for (sizes c.args.crc c.args.lengths.now) c.args.w.skip (length c.args.out.now - c.args.w.at) =
-    wanted (sizes c.args.crc c.args.lengths.now) c.args.w.skip (length c.args.out.now - c.args.w.at) c.room-free.result c.locate-place.result c.touched-p.result c.locate-place.ensures c.room-free.ensures c.touched-p.ensures in
-    let l : c.is_lent.result ≡ is_lent (plain_bytes c.args.crc c.args.channels) (between (positions_for (sizes c.args.crc c.args.lengths.now) c.args.w.skip (length c.args.out.now - c.args.w.at)) c.args.lengths.now) c.args.lent.now c.args.frames.now c.args.contents.now =
-    rw (← found, ← c.plain_bytes-n.ensures, ← mid_slice c.touched-p.result.first c.touched-p.result.end c.args.lengths.now) c.is_lent.ensures in
-    let given : is_lent (plain_bytes c.args.crc c.args.channels) (between (positions_for (sizes c.args.crc c.args.lengths.now) c.args.w.skip (length c.args.out.now - c.args.w.at)) c.args.lengths.now) c.args.lent.now c.args.frames.now c.args.contents.now ≡ true =
-    sym l ∙ c.if-not-is_lent.false in
+    let l = tested _ _ _ _ _ _ _ _ _ (wanted _ _ _ _ _ _ c.locate-place.ensures c.room-free.ensures c.touched-p.ensures) c.plain_bytes-n.ensures c.is_lent.ensures in
+    let given = sym l ∙ c.if-not-is_lent.false in
     rw (given, c.filled.ensures, c.locate-place.ensures)
     (filled-lent c.args.crc c.args.lengths.now (plain_bytes c.args.crc c.args.channels) c.args.lent.now c.args.frames.now c.args.contents.now c.args.w c.args.out.now given {v = c.units-v.result}
     (rw (← c.plain_bytes-n.ensures, ← c.locate-place.ensures) c.units-v.ensures))
