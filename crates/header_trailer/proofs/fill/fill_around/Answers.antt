@@ -10,18 +10,8 @@ use borrow.Author.Rules.{rules}
 use Rattle.header_trailer.proofs.FillLaws.{filled}
 use Rattle.header_trailer.proofs.fill.fill_around.Goals as goal
 
-<<<<<<< HEAD
--- DSD sound fits a u64
-short : (s : tie.Start) → area_positions s.args.area * frame_bytes s.args.area.channels < 2 ^ 64
-short s =
-    rw mul_comm (omega (arith, sound-short s.args.area.channels (area_positions s.args.area) (search rules) (search rules)))
-
-pub returns : goal.returns
-returns c = let low = short c⟨Start⟩ in
-=======
 pub returns : goal.returns
 returns c =  -- DSD sound fits a u64
     let low : area_positions c.args.area * frame_bytes c.args.area.channels < 2 ^ 64 =
     rw mul_comm (omega (arith, sound-short c.args.area.channels (area_positions c.args.area) (search rules) (search rules))) in
->>>>>>> 1f5dd7dcc6e13f2ca35f66177276573bbd34fd30
     filled _ _ _ low c.sound_size-sound.ensures c.plus-size.ensures c.new-start.ensures (c.chunk_head-c.ensures then c.front_sized.ensures) c.back.ensures

@@ -32,11 +32,7 @@ loop-i-preserved c = let there : c.loop-i.i < length c.args.words.now = omega (a
     let more : c.loop-i.i < length default_words = omega (arith, c.fitting-n.ensures, c.loop-i-test.true, many) in (
       search rules,
       search rules,
-<<<<<<< HEAD
-      rw (c.loop-i.invariant.2, c.default_words_lem.ensures, add-one) (one_more c.args.words.now default_words c.loop-i.i there more),
-=======
       rw (c.loop-i.invariant.2, c.default_words-defaults.ensures, add-one) (one_more c.args.words.now default_words c.loop-i.i there more),
->>>>>>> 1f5dd7dcc6e13f2ca35f66177276573bbd34fd30
     )
 
 pub returns : goal.returns
