@@ -19,7 +19,6 @@ use Rattle.refusal.specs.Below.{below, how_many}
 use Rattle.rows.specs.Row.{row_at}
 use Rattle.comment_faults.specs.Comments.{is_written_comment, date_wrong, reference_wrong, written_at, comment_at, comment_fault, comment_faults}
 use Rattle.refusal.specs.declared.verdict.Verdict.TheVariants.{Accepted}
-use Rattle.rows.specs.declared.row.Row.TheVariants as row
 use Rattle.refusal.proofs.VerdictLaws.{after, if-accepted, none-refused}
 
 -- one more at most 65,535 times

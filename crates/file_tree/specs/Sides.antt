@@ -1,6 +1,6 @@
 -- The local chunks on either side of the sound, and FRM8's data up to the sound and behind it, with `base` for the place of the first sound byte in the
 -- file, from which the index's offsets are counted. Assumes nothing.
-use Rattle.std.specs.Prelude.{Bool, true, false, cond, not, ℕ, min, take}
+use Rattle.std.specs.Prelude.{Bool, true, false, cond, ℕ, min, take}
 use mathlib.Core.List.{List, [], ◌∷◌, ◌++◌, flat_map}
 use Rattle.chunk.specs.Number.{be}
 use Rattle.chunk_names.specs.Name.{ascii}

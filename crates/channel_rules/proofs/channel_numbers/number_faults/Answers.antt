@@ -1,7 +1,6 @@
 -- The goals that a check leaves.
-use Prim.Native.Nat.{◌-◌}
 use borrow.Author.Rules.{rules}
-use Rattle.channel_rules.specs.ChannelNumbers.{number_fault, number_faults}
+use Rattle.channel_rules.specs.ChannelNumbers.{number_faults}
 use Rattle.refusal.proofs.BelowLaws.{below_none, below_more, below_all}
 use Rattle.channel_rules.proofs.channel_numbers.number_faults.Goals as goal
 

@@ -1,6 +1,5 @@
 -- The goals that a check leaves.
 use mathlib.Core.List.{flat_map}
-use Prim.Native.Nat.{◌-◌}
 use borrow.Author.Rules.{rules}
 use Rattle.chunk.proofs.AppendLaws.{◌then◌, none}
 use Rattle.chunk.proofs.ListLaws.{flat_map-append}

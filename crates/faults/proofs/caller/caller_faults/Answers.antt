@@ -1,7 +1,6 @@
 -- The goals that a check leaves.
-use Prim.Native.Nat.{◌-◌}
 use borrow.Author.Rules.{rules}
-use Rattle.faults.specs.Caller.{name_fault, caller_faults}
+use Rattle.faults.specs.Caller.{caller_faults}
 use Rattle.refusal.proofs.BelowLaws.{below_none, below_more, below_all}
 use Rattle.faults.proofs.caller.caller_faults.Goals as goal
 

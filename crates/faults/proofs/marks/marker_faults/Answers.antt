@@ -1,7 +1,6 @@
 -- The goals that a check leaves.
-use Prim.Native.Nat.{◌-◌}
 use borrow.Author.Rules.{rules}
-use Rattle.faults.specs.Marks.{marker_fault, marker_faults}
+use Rattle.faults.specs.Marks.{marker_faults}
 use Rattle.refusal.proofs.BelowLaws.{below_none, below_more, below_all}
 use Rattle.faults.proofs.marks.marker_faults.Goals as goal
 

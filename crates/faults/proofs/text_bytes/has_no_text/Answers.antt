@@ -1,9 +1,7 @@
 -- The goals that a check leaves.
 use mathlib.Core.Path.{refl, ap}
 use mathlib.Core.Bool.{not}
-use Prim.Native.Nat.{◌-◌}
 use native.Mathlib.Omega.{arith}
-use Rattle.texts.specs.Text.{passes}
 use Rattle.faults.specs.TextBytes.{has_no_text}
 use Rattle.refusal.proofs.BelowLaws.{below_none, below_more, below_all}
 use Rattle.faults.proofs.text_bytes.has_no_text.Goals as goal

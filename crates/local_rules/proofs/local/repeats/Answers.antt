@@ -1,8 +1,6 @@
 -- The goals that a check leaves.
 use mathlib.Core.Path.{refl}
-use Prim.Native.Nat.{◌-◌}
 use borrow.Author.Rules.{rules}
-use Rattle.refusal.specs.Orders.{times}
 use Rattle.refusal.proofs.BelowLaws.{below_none, below_more, below_all}
 use Rattle.local_rules.proofs.local.repeats.Goals as goal
 

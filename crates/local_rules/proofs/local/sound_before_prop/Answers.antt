@@ -1,6 +1,5 @@
 -- The goals that a check leaves.
 use mathlib.Core.Path.{refl}
-use Prim.Native.Nat.{◌-◌}
 use borrow.Author.Rules.{rules}
 use Rattle.refusal.proofs.BelowLaws.{below_none, below_more, below_all}
 use Rattle.local_rules.proofs.local.sound_before_prop.Goals as goal

@@ -1,5 +1,5 @@
 -- The goals that a check leaves.
-use Prim.Native.Nat.{◌-◌, ◌*◌}
+use Prim.Native.Nat.{◌*◌}
 use borrow.Author.Rules.{rules}
 use lib.ListN.{take, drop}
 use Rattle.tree.specs.Tree.{bytes, each}

@@ -1,9 +1,8 @@
 -- The goals that a check leaves.
 use mathlib.Core.Path.{refl, ap}
 use mathlib.Core.Bool.{not}
-use Prim.Native.Nat.{◌-◌}
 use borrow.Author.Rules.{rules}
-use Rattle.refusal.specs.Orders.{times, each_once}
+use Rattle.refusal.specs.Orders.{each_once}
 use Rattle.refusal.proofs.BelowLaws.{below_none, below_more, below_all}
 use Rattle.refusal.proofs.orders.each_once.Goals as goal
 

@@ -1,6 +1,5 @@
 -- The goals that a check leaves.
 use mathlib.Core.Path.{◌≡◌, refl, ap}
-use Prim.Native.Nat.{◌-◌}
 use native.Mathlib.Omega.{arith}
 use Rattle.rows.specs.Row.{extent_at}
 use Rattle.row_extents.specs.Extents.{is_long, is_outside, too_large, outside_pool}

@@ -1,5 +1,4 @@
 -- The goals that a check leaves.
-use Prim.Native.Nat.{◌-◌}
 use borrow.Author.Rules.{rules}
 use Rattle.rows.specs.Durations.{short_tracks}
 use Rattle.refusal.proofs.BelowLaws.{below_none, below_more, below_all}

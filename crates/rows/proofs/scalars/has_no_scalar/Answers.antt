@@ -1,6 +1,5 @@
 -- The goals that a check leaves.
 use mathlib.Core.Path.{refl}
-use Prim.Native.Nat.{◌-◌}
 use native.Mathlib.Omega.{arith}
 use Rattle.rows.specs.Scalars.{has_no_scalar}
 use Rattle.refusal.proofs.BelowLaws.{below_none, below_more, below_all}

@@ -1,6 +1,5 @@
 -- The goals that a check leaves.
 use mathlib.Core.Path.{refl}
-use Prim.Native.Nat.{◌-◌}
 use native.Mathlib.Omega.{arith}
 use Rattle.rows.specs.Scalars.{no_scalars}
 use Rattle.refusal.proofs.BelowLaws.{below_none, below_more, below_all}

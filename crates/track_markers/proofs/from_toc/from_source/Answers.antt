@@ -1,7 +1,5 @@
 -- `from_toc::from_source` meets its contract: the row that is lent on is the source track's. Assumes nothing.
-use mathlib.Core.Bool.{◌&&◌}
 use borrow.Author.Rules.{rules}
-use borrow.Author.Tests.{not-true, not-false}
 use Rattle.tree.specs.Tree.{bytes, each}
 use Rattle.chunk.proofs.AppendLaws.{none}
 use Rattle.track_markers.proofs.SourceLaws.{source_past, source_row}

@@ -1,6 +1,6 @@
 -- `from_toc::from_toc` meets its contract. Assumes nothing.
 use borrow.Author.Rules.{rules}
-use borrow.Author.Tests.{eq-eqb, ne_eqb, not-true, not-false}
+use borrow.Author.Tests.{eq-eqb, ne_eqb}
 use Rattle.tree.specs.Tree.{bytes, each}
 use Rattle.chunk.proofs.AppendLaws.{none}
 use Rattle.track_markers.specs.Program.{from_toc}

@@ -1,7 +1,6 @@
 -- The goals that a check leaves.
 use mathlib.Core.Path.{refl}
 use mathlib.Core.List.{flat_map}
-use Prim.Native.Nat.{◌-◌}
 use borrow.Author.Rules.{rules}
 use Rattle.tree.specs.Tree.{bytes, each}
 use Rattle.chunk.proofs.AppendLaws.{◌then◌, none}

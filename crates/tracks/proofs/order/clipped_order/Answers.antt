@@ -1,5 +1,4 @@
 -- The goals that a check leaves.
-use Prim.Native.Nat.{◌-◌}
 use borrow.Author.Rules.{rules}
 use Rattle.tracks.proofs.OrderLaws.{passed_none, passed-next, passed_all}
 use Rattle.tracks.proofs.order.clipped_order.Goals as goal

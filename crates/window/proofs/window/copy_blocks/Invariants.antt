@@ -1,7 +1,7 @@
 -- `window::copy_blocks` meets its contract. The loop's invariant: the first i bytes are those of src, the others are as they were. Assumes nothing.
 use mathlib.Core.List.{◌++◌}
 use mathlib.Core.Path.{◌≡◌}
-use Prim.Native.Nat.{◌+◌, ◌-◌, ◌≤◌}
+use Prim.Native.Nat.{◌-◌, ◌≤◌}
 use lib.ListN.{length, take, drop}
 use Rattle.window.proofs.window.copy_blocks.Given as goal
 

@@ -1,6 +1,6 @@
 -- `Window::past` meets its contract. Assumes nothing.
 use mathlib.Core.Path.{◌≡◌, ap₂}
-use Prim.Native.Nat.{ℕ, ◌-◌}
+use Prim.Native.Nat.{ℕ}
 use native.Mathlib.Omega.{arith}
 use Rattle.window.specs.Window.{after}
 use Rattle.window.specs.declared.window.Window.{Window}
