@@ -22,7 +22,7 @@ mod records; // records.rt: the rows of custom markers as records
 mod by_records; // by_records.rt: a recorded build with custom markers, built again with these as records
 mod builds; // builds.rt: a recorded build, built again
 mod frames; // frames.rt: the bytes of frames
-mod window; // window.rt: a recorded window
+mod recorded_window; // recorded_window.rt: a recorded window
 mod file; // file.rt: the file that windows are of
 mod reads; // reads.rt: a recorded window, asked and read again
 mod record; // record.rt: a record of any kind

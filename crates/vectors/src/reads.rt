@@ -3,9 +3,9 @@ use crate::buffers::{FILL, front, same};
 use crate::builds::Outcome;
 use crate::file::File;
 use crate::number::{count, plus, take};
+use crate::recorded_window::Window;
 use crate::unpack::Unpacked;
-use crate::window::Window;
-use crate::{counts, frames, lists, unpack, window};
+use crate::{counts, frames, lists, recorded_window, unpack};
 use read_answer::answer::ReadAnswer;
 
 // Bytes of a channel's content.
@@ -158,7 +158,7 @@ fn run_one(
     header: &[u8],
     trailer: &[u8],
 ) -> Outcome {
-    let w = window::read(file, at);
+    let w = recorded_window::read(file, at);
     let asked = query(counts, f, lengths, w);
     if !f.has_bytes {
         return Outcome {
