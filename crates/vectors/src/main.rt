@@ -33,5 +33,5 @@ use std::{fs, io};
 
 fn main(rt: HostRuntime) -> io::Result<()> {
     let answers = fs::open(&rt, "answers")?;
-    replay::all(&rt, &answers)
+    replay::all(&rt, rt.alloc(), &answers)
 }

@@ -4,6 +4,7 @@ use crate::builds::Outcome;
 use crate::file::LENGTHS;
 use crate::number::{PAST, take};
 use crate::{builds, file, lists, reads, unpack};
+use std::alloc::{AllocError, Global};
 
 // Room for the words of a build, and for its raw bytes: a text of 1,048,577 elements, one more than a build takes.
 const WORDS: usize = 1_050_000;
@@ -18,14 +19,20 @@ pub const SIDE: usize = 8_192;
 
 const FILE_WORDS: usize = 2_048;
 
-fn build(file: &[u8], at: usize, counts: &mut [usize]) -> Outcome {
-    let mut rows = [0u32; WORDS];
-    let mut raw = [0u8; RAW];
+// The two longest tables are on the heap: with all that the calls below hold, they are more than a stack of 8 MiB has room for.
+fn build(
+    alloc: Global,
+    file: &[u8],
+    at: usize,
+    counts: &mut [usize],
+) -> Result<Outcome, AllocError> {
+    let mut rows = vec![in alloc; 0u32; WORDS]?;
+    let mut raw = vec![in alloc; 0u8; RAW]?;
     let mut header = [FILL; ROOM];
     let mut trailer = [FILL; SIDE];
     let mut wanted_header = [FILL; ROOM];
     let mut wanted_trailer = [FILL; SIDE];
-    builds::run(
+    Ok(builds::run(
         file,
         at,
         counts,
@@ -35,7 +42,7 @@ fn build(file: &[u8], at: usize, counts: &mut [usize]) -> Outcome {
         &mut trailer,
         &mut wanted_header,
         &mut wanted_trailer,
-    )
+    ))
 }
 
 fn windows(file: &[u8], at: usize, counts: &mut [usize]) -> Outcome {
@@ -54,28 +61,28 @@ fn windows(file: &[u8], at: usize, counts: &mut [usize]) -> Outcome {
     )
 }
 
-fn of_kind(file: &[u8], counts: &mut [usize]) -> Outcome {
+fn of_kind(alloc: Global, file: &[u8], counts: &mut [usize]) -> Result<Outcome, AllocError> {
     let kind = take(file, 0);
     if kind.value == 0 {
-        return build(file, kind.at, counts);
+        return build(alloc, file, kind.at, counts);
     }
     if kind.value == 1 {
-        return windows(file, kind.at, counts);
+        return Ok(windows(file, kind.at, counts));
     }
-    Outcome {
+    Ok(Outcome {
         agrees: false,
         end: PAST,
-    }
+    })
 }
 
 // The record that stands at the beginning of the file, which does not end before it.
-pub(crate) fn run(file: &[u8], counts: &mut [usize]) -> Outcome {
-    let o = of_kind(file, counts);
+pub(crate) fn run(alloc: Global, file: &[u8], counts: &mut [usize]) -> Result<Outcome, AllocError> {
+    let o = of_kind(alloc, file, counts)?;
     if o.end <= file.len() {
-        return o;
+        return Ok(o);
     }
-    Outcome {
+    Ok(Outcome {
         agrees: false,
         end: PAST,
-    }
+    })
 }

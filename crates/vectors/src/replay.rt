@@ -2,6 +2,7 @@
 use crate::builds::Outcome;
 use crate::number::{Number, PAST, plus, take};
 use crate::{counts, print, record};
+use std::alloc::Global;
 use std::fs::File;
 use std::io;
 use std::os::unix::fs::FileExt;
@@ -31,10 +32,10 @@ fn ends(answers: &File, at: usize) -> io::Result<bool> {
 }
 
 // The record at this place. Where the next one stands.
-fn run(answers: &File, at: usize, counts: &mut [usize]) -> io::Result<Outcome> {
+fn run(alloc: Global, answers: &File, at: usize, counts: &mut [usize]) -> io::Result<Outcome> {
     let mut room = [0u8; HELD];
     let n = answers.read_at(&mut room, place(at))?;
-    let o = record::run(&room[..n], counts);
+    let o = record::run(alloc, &room[..n], counts)?;
     Ok(Outcome {
         agrees: o.agrees,
         end: plus(at, o.end),
@@ -51,6 +52,7 @@ struct Progress {
 // One record more, if the file goes on.
 fn next(
     rt: &impl Print,
+    alloc: Global,
     answers: &File,
     counts: &mut [usize],
     before: Progress,
@@ -58,7 +60,7 @@ fn next(
     if before.at >= PAST {
         return Ok(before);
     }
-    let o = run(answers, before.at, counts)?;
+    let o = run(alloc, answers, before.at, counts)?;
     let done = plus(before.done, 1);
     if !o.agrees {
         print::differs(rt, done)?;
@@ -69,7 +71,12 @@ fn next(
     })
 }
 
-fn records(rt: &impl Print, answers: &File, counts: &mut [usize]) -> io::Result<Progress> {
+fn records(
+    rt: &impl Print,
+    alloc: Global,
+    answers: &File,
+    counts: &mut [usize],
+) -> io::Result<Progress> {
     let first = head(answers)?;
     let mut p = Progress {
         at: first.at,
@@ -77,15 +84,15 @@ fn records(rt: &impl Print, answers: &File, counts: &mut [usize]) -> io::Result<
     };
     let mut left = first.count();
     while left > 0 {
-        p = next(rt, answers, counts, p)?;
+        p = next(rt, alloc, answers, counts, p)?;
         left -= 1;
     }
     Ok(p)
 }
 
-pub(crate) fn all(rt: &impl Print, answers: &File) -> io::Result<()> {
+pub(crate) fn all(rt: &impl Print, alloc: Global, answers: &File) -> io::Result<()> {
     let mut counts = [0usize; counts::ROOM];
-    let p = records(rt, answers, &mut counts)?;
+    let p = records(rt, alloc, answers, &mut counts)?;
     print::end(rt, p.at, ends(answers, p.at)?)?;
     print::totals(rt, p.done, &counts)?;
     print::refusals(rt, &counts)
