@@ -10,14 +10,31 @@ mod case; // case.rt: what a case is lent, and the verdict on it
 mod table; // table.rt: the table, line by line
 mod print; // print.rt: a line of the answer
 
+ghost use Rattle.std.specs.Prelude.{◌≤◌, length, IfOk};
+
 use std::io;
 use std::io::Read;
 
 // How many bytes of the input are read.
-const MOST: u64 = 65_536;
+const MOST: usize = 65_536;
+
+// Fills `text` from the input, as far as that goes. How many bytes are filled.
+fn read_full<R: Read>(input: &mut R, text: &mut [u8]) -> io::Result<usize>
+    ensures { IfOk result (λ n. n ≤ length text.new) }
+{
+    let mut n = 0;
+    for _ in 0..text.len() {
+        let more = input.read(&mut text[n..])?;
+        if more == 0 {
+            return Ok(n);
+        }
+        n += more;
+    }
+    Ok(n)
+}
 
 fn main(rt: HostRuntime) -> io::Result<()> {
-    let mut text = Vec::new(rt.alloc());
-    rt.reader().take(MOST).read_to_end(&mut text)?;
-    table::all(&rt, &text)
+    let mut text = [0u8; MOST];
+    let n = read_full(&mut rt.reader(), &mut text)?;
+    table::all(&rt, &text[..n])
 }

@@ -1,3 +1,4 @@
 pub mod MarkerLaws
 pub mod TableLaws
+pub mod Zeros
 pub mod WholeLaws
