@@ -163,7 +163,6 @@ def turn_body(body, place, places, bound="c"):
     body = body.strip("\n")
     # lets of a place, or of a step, are put where they are used
     out = ""
-    body = "\n".join(line for line in body.split("\n"))
     while True:
         match = LET.search(body)
         if not match:
