@@ -5,6 +5,7 @@ use Rattle.chunk_names.specs.declared.InfoChunk.{InfoChunk}
 use Rattle.chunk_names.specs.declared.LocalChunk.{LocalChunk}
 use Rattle.build_options.specs.declared.area.Area.{Area}
 use Rattle.build_options.specs.declared.options.Options.{Options}
+use Rattle.build_options.specs.declared.inputs.Inputs as declared
 
 pub record Inputs : Type 0 where
   pub area : Area
@@ -40,4 +41,22 @@ inputs_of area options property_order info_order local_order local_count pool ra
   comments = comments;
   callers = callers;
   lengths = lengths;
+}
+
+-- what a build is told, the lent slices as lists
+abbrev pub told : declared.Inputs → Inputs
+told x = record {
+  area = x.area;
+  options = x.options;
+  property_order = x.property_order;
+  info_order = x.info_order;
+  local_order = x.local_order;
+  local_count = x.local_count;
+  pool = x.pool.now;
+  raw = x.raw.now;
+  tracks = x.tracks.now;
+  markers = x.markers.now;
+  comments = x.comments.now;
+  callers = x.callers.now;
+  lengths = x.lengths.now;
 }
