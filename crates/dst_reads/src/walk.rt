@@ -65,17 +65,12 @@ fn past_blocks(crc: bool, lengths: &[u32], place: u64) -> Place
 pub fn locate(crc: bool, lengths: &[u32], place: u64) -> Place
     ensures { result ≡ place_of (sizes crc lengths.now) place }
 {
-    let Place {
-        position,
-        mut within,
-    } = past_blocks(crc, lengths, place);
-    for k in position..lengths.len() {
-        let size = unit_size(crc, lengths[k]);
+    let start = past_blocks(crc, lengths, place);
+    let mut within = start.within;
+    for position in start.position..lengths.len() {
+        let size = unit_size(crc, lengths[position]);
         if within < size {
-            return Place {
-                position: k,
-                within,
-            };
+            return Place { position, within };
         }
         within -= size;
     }
@@ -90,10 +85,8 @@ pub(crate) fn touched(crc: bool, lengths: &[u32], place: Place, count: u64) -> P
     requires { Inside (sizes crc lengths.now) place }
     ensures { result ≡ positions_for (sizes crc lengths.now) (byte_at (sizes crc lengths.now) place) count }
 {
-    let Place {
-        position: first,
-        mut within,
-    } = place;
+    let first = place.position;
+    let mut within = place.within;
     if count == 0 || lengths.len() <= first {
         return Positions { first: 0, end: 0 };
     }
