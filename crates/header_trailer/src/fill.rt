@@ -32,7 +32,7 @@ pub fn fill_around(
         head.old head.new tail.old tail.new result }
 {
     let sound = file_layout::sound::sound_size(area, options.dst_crc, lengths);
-    let size = dst::unit::plus(rest, sound);
+    let size = rest.saturating_add(sound);
     let start = Cursor::new();
     let c = start.chunk_head(head, *b"FRM8", size);
     file_layout::sides::front_sized(
