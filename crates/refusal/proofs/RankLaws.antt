@@ -23,20 +23,7 @@ use Rattle.refusal.specs.Below.{below, any}
 use Rattle.refusal.specs.Orders.{property_rank, info_rank, local_rank, times, each_once}
 use Rattle.refusal.proofs.OrderLaws.{times-cons, times_none}
 use Rattle.refusal.proofs.Listed.{listed}
-
--- whether one is so, by the first of them
-any-front : (f : ℕ → Bool) (n : ℕ) → any f (suc n) ≡ (f 0 || any (λ k. f (suc k)) n)
-unfolding below
-any-front f zero = or-false (f 0)
-  where
-    or-false : (a : Bool) → a ≡ (a || false)
-    or-false true = refl
-    or-false false = refl
-any-front f (suc n) = ap (λ (a : Bool). a || f (suc n)) (any-front f n) ∙ assoc (f 0) (any (λ k. f (suc k)) n) (f (suc n))
-  where
-    assoc : (a b c : Bool) → ((a || b) || c) ≡ (a || (b || c))
-    assoc true b c = refl
-    assoc false b c = refl
+use Rattle.refusal.proofs.AnyLaws.{any-front}
 
 -- each is so, where none is not
 all-listed : (p : ℕ → Bool) (n : ℕ) (g : ℕ → ℕ) → list_all p (listed n g) ≡ not (any (λ k. not (p (g k))) n)
