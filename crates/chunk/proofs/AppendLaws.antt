@@ -1,12 +1,13 @@
 -- The laws of an append. Assumes nothing.
 use mathlib.Core.Path.{◌≡◌, refl, sym, ap, ◌∙◌}
-use mathlib.Core.List.{List, [], ◌∷◌, ◌++◌, append-nil}
+use mathlib.Core.List.{List, [], ◌∷◌, ◌++◌, append-nil, append_assoc}
 use Prim.Native.Nat.{ℕ, suc, ◌+◌, ◌-◌, ◌^◌, ◌≤◌, ◌<◌, min}
 use native.Mathlib.Nat.{add-suc, suc-add, add-zero}
 use native.Mathlib.Decide.{dec_lt, dec_le}
 use native.Mathlib.Omega.{arith}
+use borrow.Rule.Slice.PartMut.{put_mid}
 use lib.ListN.{length, set, take, drop, length-set, length-append, take-append-drop}
-use lib.Seq.{take_all, length-take-le, set_out, sets, sets-eq, paste}
+use lib.Seq.{take_all, length-take-le, set_out, sets, sets-eq, paste, drop-drop}
 use Rattle.chunk.specs.Append.{overlay, moved, Appended}
 
 -- a place moved on twice
@@ -69,10 +70,24 @@ overlay-paste xs a bs n e = go (dec_le (a + length bs) (length xs)) (dec_le (len
         ∙ sym (overlay-front xs a (take n bs) (drop n bs) (omega (arith, fit)))
         ∙ ap (overlay xs a) (take-append-drop n bs)
 
--- so such a copy is an append
-pub copied : (n : ℕ) {xs ys bs : List ℕ} {a b : ℕ} → length xs < 2 ^ 63 → n ≡ min (length bs) (length xs - a) → ys ≡ paste xs a bs n → b ≡ moved a (length bs)
-    → Appended xs a bs ys b
-copied n {xs} {bs} {a} short count stored place = record { short = short; place = place; buffer = stored ∙ overlay-paste xs a bs n count }
+-- a place past the end may stand for the end
+pub overlay-min : (xs : List ℕ) (a : ℕ) (bs : List ℕ) → overlay xs (min a (length xs)) bs ≡ overlay xs a bs
+overlay-min xs a bs = go (dec_le a (length xs))
+  where
+    go : Dec (a ≤ length xs) → overlay xs (min a (length xs)) bs ≡ overlay xs a bs
+    go (yes l) = ap (λ (k : ℕ). overlay xs k bs) (omega arith)
+    go (no l) = overlay-out xs (min a (length xs)) bs (omega arith) ∙ sym (overlay-out xs a bs (omega arith))
+
+-- so a copy of as many bytes as fit, to the part of the buffer from the place on, is an append
+pub copied : (n k : ℕ) {xs ys part bs : List ℕ} {a b p : ℕ} → length xs < 2 ^ 63 → p ≡ min a (length xs) → n ≡ min (length bs) (length xs - p) → k ≡ n
+    → part ≡ take n bs → ys ≡ put_mid p k xs part → b ≡ moved a (length bs) → Appended xs a bs ys b
+copied n k {xs} {ys} {part} {bs} {a} {b} {p} short from count all stored back place =
+    let pasted : put_mid p k xs part ≡ paste xs p bs n = rw (stored, all, drop-drop, append_assoc) in
+    record {
+      short = short;
+      place = place;
+      buffer = back ∙ pasted ∙ overlay-paste xs p bs n count ∙ ap (λ (k : ℕ). overlay xs k bs) from ∙ overlay-min xs a bs;
+    }
 
 -- THE LAW OF COMPOSITION: two appends in a row are the append of both, whether or not they fit
 infixl 5 ◌then◌

@@ -9,6 +9,7 @@ use lib.Arith.{mod-mul}
 use lib.Dec.{lit<}
 use lib.ListN.{length, take, drop, length-append}
 use lib.Seq.{drop_at, take_all}
+use Rattle.std.specs.Int.{bytes_high_first}
 use Rattle.chunk.specs.Number.{be, num}
 
 pub length-be : (n x : ℕ) → length (be n x) ≡ n
@@ -21,6 +22,14 @@ pub be-append : (m n x : ℕ) → be m (x / 256 ^ n) ++ be n x ≡ be (m + n) x
 unfolding be
 be-append m zero x = rw (append-nil, div-one, add-zero)
 be-append m (suc n) x = rw (pow-succ', ← div-div-eq-div-mul, ← append_assoc, add-suc) (rw (be-append m n (x / 256)))
+
+-- what `to_be_bytes` gives
+pub high-first : (n x : ℕ) → bytes_high_first n x ≡ be n x
+unfolding be
+high-first zero x = refl
+high-first (suc zero) x = refl
+high-first (suc (suc n)) x = let e : 1 + suc n ≡ suc (suc n) = omega arith in
+    rw (high-first (suc n) x) (rw e at (be-append 1 (suc n) x))
 
 -- the last n bytes
 pub be-last : (m n x : ℕ) → take n (drop m (be (m + n) x)) ≡ be n x

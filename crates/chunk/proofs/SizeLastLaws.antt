@@ -3,9 +3,8 @@
 -- back. Assumes nothing.
 use mathlib.Core.Path.{◌≡◌, refl, sym, ap, ap₂, ◌∙◌}
 use mathlib.Core.List.{List, ◌++◌}
-use Prim.Native.Nat.{ℕ, ◌+◌, ◌-◌, ◌%◌, ◌^◌, ◌<◌, ◌≤◌, min}
+use Prim.Native.Nat.{ℕ, ◌+◌, ◌-◌, ◌%◌, ◌^◌, ◌<◌, min}
 use native.Mathlib.Nat.{add-zero}
-use native.Mathlib.Decide.{dec_le}
 use native.Mathlib.Omega.{arith}
 use borrow.Rule.Slice.PartMut.{mid_of, put_mid}
 use lib.ListN.{length, take}
@@ -15,7 +14,7 @@ use Rattle.chunk_names.specs.Name.{Name}
 use Rattle.chunk.specs.Chunk.{pad, chunk}
 use Rattle.chunk.specs.Close.{Closed}
 use Rattle.chunk.proofs.NumberLaws.{length-be}
-use Rattle.chunk.proofs.AppendLaws.{moved-moved, ◌then◌, kept, measured, overlay-out, overlay-moved, length-overlay}
+use Rattle.chunk.proofs.AppendLaws.{moved-moved, ◌then◌, kept, measured, overlay-min, overlay-moved, length-overlay}
 use Rattle.chunk.proofs.TailLaws.{overlay-apart, overlay_tail, tail_lent, tail_back}
 use Rattle.chunk.proofs.ChunkLaws.{length-pad, chunked}
 
@@ -35,14 +34,6 @@ closing {xs} {ys} {ws} {a} {b} {c} {d} {n} size skip end =
           ∙ ap (λ (l : List ℕ). overlay l (a + (8 + n)) (pad n)) size.buffer;
     }
 
--- where data begins behind eight bytes, or at the buffer's end, where nothing is stored
-overlay_data : (xs : List ℕ) (a : ℕ) (bs : List ℕ) → overlay xs (min (a + 8) (length xs)) bs ≡ overlay xs (a + 8) bs
-overlay_data xs a bs = go (dec_le (a + 8) (length xs))
-  where
-    go : Dec (a + 8 ≤ length xs) → overlay xs (min (a + 8) (length xs)) bs ≡ overlay xs (a + 8) bs
-    go (yes l) = ap (λ (k : ℕ). overlay xs k bs) (omega arith)
-    go (no l) = overlay-out xs (min (a + 8) (length xs)) bs (omega arith) ∙ sym (overlay-out xs (a + 8) bs (omega arith))
-
 -- data that a cursor from 0 on appended to the part of the buffer behind the eight bytes of a size
 data_behind : (xs : List ℕ) (a : ℕ) {part content : List ℕ} {p o n : ℕ} → p ≡ min (a + 8) (length xs) → o ≡ 0
     → Appended (mid_of p (length xs - p) xs) o content part n → put_mid p (length xs - p) xs part ≡ overlay xs (a + 8) content
@@ -51,7 +42,7 @@ data_behind xs a {part} {content} {p} from front inside =
     ∙ ap (λ (l : List ℕ). take p xs ++ l) (inside.buffer ∙ ap₂ (λ (l : List ℕ) (k : ℕ). overlay l k content) (tail_lent p xs) front)
     ∙ overlay_tail p 0 xs content
     ∙ ap (λ (k : ℕ). overlay xs k content) (add-zero p ∙ from)
-    ∙ overlay_data xs a content
+    ∙ overlay-min xs (a + 8) content
 
 -- From the buffer xs, the size n, the data and the pad were appended one after the other, from the place a of the size on.
 record InTurn (xs : List ℕ) (a n : ℕ) (content ws : List ℕ) (d : ℕ) : Type 0 where

@@ -16,8 +16,8 @@ use Rattle.tree.proofs.TreeLaws.{bytes-stop, bytes-leaf, shaped_if}
 use Rattle.texts.specs.Extent.{part}
 use Rattle.texts.specs.Text.{text_bytes, text_pad, is_written}
 use Rattle.diin_texts.specs.DiinText.{diin_text_data, given_text_bytes, diin_text, given_text_chunk, diin_text_chunk}
-use Rattle.diin_texts.specs.declared.diin_text.Text.{Text}
-use Rattle.diin_texts.specs.declared.diin_text.Text.TheVariants.{Absent, Given}
+use Rattle.diin_texts.specs.DiinText.{Text}
+use Rattle.std.specs.Prelude.{None, Some}
 use Rattle.texts.specs.declared.text.TextOptions.{TextOptions}
 
 -- the data of a text, with the pad in it or without it
@@ -58,15 +58,14 @@ given-text_tree name text o = go (is_written o (length text))
     go false = bytes-stop
 
 pub diin-text_tree : (name : Name) (pool : List ℕ) (text : Text) (o : TextOptions) → bytes (diin_text_chunk name pool text o) ≡ diin_text name pool text o
-unfolding diin_text_chunk diin_text
-diin-text_tree name pool Absent o = bytes-stop
-diin-text_tree name pool (Given text) o = given-text_tree name (text_bytes o.rule (part pool text)) o
+diin-text_tree name pool None o = bytes-stop
+diin-text_tree name pool (Some text) o = given-text_tree name (text_bytes o.rule (part pool text)) o
 
 -- and have the shape of a reader for whom the name is no container
 pub diin-text_shaped : (r : Reader) (parent name : Name) → length name ≡ 4 → r.inner parent name ≡ none
     → (pool : List ℕ) (text : Text) (o : TextOptions) → Shaped r parent (diin_text_chunk name pool text o)
-unfolding diin_text_chunk given_text_chunk
-diin-text_shaped r parent name four plain pool Absent o = tt
-diin-text_shaped r parent name four plain pool (Given e) o =
+unfolding given_text_chunk
+diin-text_shaped r parent name four plain pool None o = tt
+diin-text_shaped r parent name four plain pool (Some e) o =
     let text = text_bytes o.rule (part pool e) in
     shaped_if r parent (is_written o (length text)) (leaf name (diin_text_data text o) stop) (four, plain, tt)

@@ -8,33 +8,22 @@ ghost use Rattle.diin_texts.specs.DiinText.{diin_text, given_text_bytes};
 
 use chunk::Cursor;
 use texts::extent::Extent;
-use texts::text::TextOptions;
+use texts::text::{TextOptions, counted_text, text_count, text_pad};
 
-// A text that may be missing. A given one, though empty, is present.
-#[derive(Clone, Copy)]
-pub enum Text {
-    Absent,
-    Given(Extent),
-}
-
-// DIAR or DITI, by its name.
+// DIAR or DITI, by its name. A text that is given, though empty, is present.
 pub fn diin_text(
     c: Cursor,
     out: &mut [u8],
     id: [u8; 4],
     pool: &[u32],
-    text: Text,
+    text: Option<Extent>,
     options: TextOptions,
 ) -> Cursor
     ensures { Appended out.old c.at (diin_text id pool.now text options) out.new result.at }
 {
     match text {
-        Text::Absent => {
-            return c;
-        }
-        Text::Given(given) => {
-            return given_text(c, out, id, pool, given, options);
-        }
+        Some(given) => given_text(c, out, id, pool, given, options),
+        None => c,
     }
 }
 
@@ -49,15 +38,13 @@ fn given_text(
 ) -> Cursor
     ensures { Appended out.old c.at (given_text_bytes id (text_bytes options.rule (part pool.now text)) options) out.new result.at }
 {
-    let rule = options.rule;
-    let count = texts::text::text_count(rule, pool, text);
+    let count = text_count(options.rule, pool, text);
     if !options.writes(count) {
         return c;
     }
-    let size_at = c.name(out, id);
-    let from = size_at.data_start(out.len());
-    let end = diin_text_data(Cursor::new(), &mut out[from..], count, pool, text, options);
-    size_at.close(out, end)
+    c.chunk_of(out, id, |c, out| {
+        diin_text_data(c, out, count, pool, text, options)
+    })
 }
 
 // The data: the count, the text, and its pad if that is counted.
@@ -73,7 +60,6 @@ fn diin_text_data(
         (be 4 count ++ text_bytes options.rule (part pool.now text) ++ text_pad options count)
         out.new result.at }
 {
-    let rule = options.rule;
-    let c = texts::text::counted_text(c, out, count, rule, pool, text);
-    texts::text::text_pad(c, out, count, options)
+    let c = counted_text(c, out, count, options.rule, pool, text);
+    text_pad(c, out, count, options)
 }

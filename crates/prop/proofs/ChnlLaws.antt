@@ -12,6 +12,7 @@ use Rattle.prop_fields.specs.Layout.{channel_names}
 use Rattle.prop.specs.Property.{chnl_data}
 use Rattle.prop_fields.specs.declared.layout.Layout.{Layout}
 use Rattle.prop_fields.specs.declared.layout.ChannelNumbers.{ChannelNumbers}
+use Rattle.std.specs.Prelude.{Option}
 use Rattle.prop_fields.proofs.LayoutLaws.{names_short}
 
 -- CHNL's count is that of the names
@@ -20,6 +21,6 @@ pub chnl_count : (count : ℕ) (names : List Name) → count ≤ length names
 unfolding chnl_data
 chnl_count count names enough = rw (length-take-le count names enough)
 
-pub chnl_short : (layout : Layout) (channels : ℕ) (n : ChannelNumbers) → length (chnl_data (channel_names layout channels n)) ≤ 26
+pub chnl_short : (layout : Layout) (channels : ℕ) (n : Option ChannelNumbers) → length (chnl_data (channel_names layout channels n)) ≤ 26
 unfolding chnl_data
 chnl_short layout channels n = simp (length-append, length-be) (omega (arith, names_short layout channels n))

@@ -9,30 +9,29 @@ use Rattle.chunk.specs.Chunk.{pad, chunk, counts}
 use Rattle.tree.specs.Tree.{bytes, join, each}
 use Rattle.chunk_names.specs.declared.PropertyChunk.{PropertyChunk}
 use Rattle.chunk_names.specs.declared.PropertyChunk.TheVariants.{SampleRate, Channels, CompressionType, AbsoluteStartTime, LoudspeakerConfiguration}
-use Rattle.prop_fields.specs.Layout.{numbers_of, digit, channel_name, channel_count, six_names, channel_names, speaker_code}
-use Rattle.prop_fields.specs.Start.{is_given}
+use Rattle.prop_fields.specs.Layout.{channel_names}
 use Rattle.prop_fields.specs.Compression.{compression_data, cmpr_data}
-use Rattle.prop.specs.Property.{chnl_data, id_of, content_of, is_property_written, property_chunk, property_chunks, property}
+use Rattle.prop.specs.Property.{chnl_data, content_of, property_chunk, property_chunks, property}
 use Rattle.prop_fields.specs.declared.compression.Sound.TheVariants.{Dsd, Dst}
 use Rattle.prop_fields.specs.declared.layout.ChannelNumbers.{ChannelNumbers}
 use Rattle.prop_fields.specs.declared.layout.Layout.TheVariants.{Stereo, Unspecified}
 use Rattle.prop.specs.declared.property.Properties.{Properties}
-use Rattle.prop_fields.specs.declared.start.Start.TheVariants.{Absent}
+use Rattle.std.specs.Prelude.{Option, None, Some}
 
 -- no numbers given, and the numbers 5, 120, 999
-no_numbers : ChannelNumbers
-no_numbers = record { given = false; count = 0; numbers = 0 ∷ 0 ∷ 0 ∷ 0 ∷ 0 ∷ 0 ∷ [] }
+no_numbers : Option ChannelNumbers
+no_numbers = None
 
-three-numbers : ChannelNumbers
-three-numbers = record { given = true; count = 3; numbers = 5 ∷ 120 ∷ 999 ∷ 0 ∷ 0 ∷ 0 ∷ [] }
+three-numbers : Option ChannelNumbers
+three-numbers = Some (record { count = 3; numbers = 5 ∷ 120 ∷ 999 ∷ 0 ∷ 0 ∷ 0 ∷ [] })
 
 -- the names of three channels of an unspecified layout, by default and with given numbers
 default_names : channel_names Unspecified 3 no_numbers ≡ ascii "C000" ∷ ascii "C001" ∷ ascii "C002" ∷ []
-unfolding no_numbers channel_names channel_count six_names numbers_of channel_name digit
+unfolding no_numbers
 default_names = refl
 
 given_names_lem : channel_names Unspecified 3 three-numbers ≡ ascii "C005" ∷ ascii "C120" ∷ ascii "C999" ∷ []
-unfolding three-numbers channel_names channel_count six_names numbers_of channel_name digit
+unfolding three-numbers
 given_names_lem = refl
 
 -- stereo DSD by default
@@ -42,7 +41,7 @@ stereo-dsd d1 = record {
   layout = Stereo;
   channels = 2;
   numbers = no_numbers;
-  start = Absent;
+  start = None;
   loudspeaker_configuration = true;
   unspecified_loudspeaker_configuration = false;
   d1 = d1;
@@ -50,7 +49,7 @@ stereo-dsd d1 = record {
 
 -- PROP's data has 88 bytes, with D1 and without, which its size field tells
 data_size_lem : (d1 : Bool) → length (ascii "SND " ++ bytes (property_chunks property_order (stereo-dsd d1))) ≡ 88
-unfolding stereo-dsd property_chunk is_property_written is_given id_of content_of chnl_data channel_names channel_count six_names speaker_code cmpr_data compression_data counts bytes join each flat_map chunk be pad
+unfolding stereo-dsd property_chunk chnl_data compression_data counts bytes join each flat_map chunk be pad
 data_size_lem true = refl
 data_size_lem false = refl
 
@@ -60,15 +59,15 @@ size_field d1 = rw (data_size_lem d1)
 
 -- CMPR has 19 bytes, with D1 20, and no other chunk differs
 cmpr_size_lem : length (content_of (stereo-dsd false) CompressionType) ≡ 19
-unfolding stereo-dsd content_of cmpr_data compression_data counts be
+unfolding stereo-dsd compression_data counts be
 cmpr_size_lem = refl
 
 cmpr_size_d1 : length (content_of (stereo-dsd true) CompressionType) ≡ 20
-unfolding stereo-dsd content_of cmpr_data compression_data counts be pad
+unfolding stereo-dsd compression_data counts be pad
 cmpr_size_d1 = refl
 
 same-content : (part : PropertyChunk) → (part ≡ CompressionType → ⊥) → content_of (stereo-dsd true) part ≡ content_of (stereo-dsd false) part
-unfolding stereo-dsd content_of
+unfolding stereo-dsd
 same-content SampleRate other = refl
 same-content Channels other = refl
 same-content CompressionType other = absurd (other refl)
@@ -77,6 +76,6 @@ same-content LoudspeakerConfiguration other = refl
 
 -- the CMPR of DST has 16 bytes, with D1 and without
 dst_cmpr_size : (d1 : Bool) → length (cmpr_data Dst d1) ≡ 16
-unfolding cmpr_data compression_data counts be pad
+unfolding compression_data counts be pad
 dst_cmpr_size true = refl
 dst_cmpr_size false = refl

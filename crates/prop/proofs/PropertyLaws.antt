@@ -30,7 +30,7 @@ use Rattle.prop.proofs.ChnlLaws.{chnl_short}
 
 -- the data of CMPR has at most 20 bytes
 cmpr_short : (sound : Sound) (d1 : Bool) → length (cmpr_data sound d1) ≤ 20
-unfolding cmpr_data compression_data counts be pad
+unfolding compression_data counts be pad
 cmpr_short Dsd true = omega arith
 cmpr_short Dsd false = omega arith
 cmpr_short Dst true = omega arith
@@ -42,7 +42,6 @@ time_short t = simp (length-append, length-be)
 
 module _ (p : Properties) where
   pub content-short : (part : PropertyChunk) → length (content_of p part) ≤ 26
-  unfolding content_of
   content-short SampleRate = omega (arith, length-be 4 sample_rate)
   content-short Channels = chnl_short p.layout p.channels p.numbers
   content-short CompressionType = omega (arith, cmpr_short p.sound p.d1)
@@ -59,7 +58,6 @@ module _ (p : Properties) where
   chunk-left-out part h = rw h
 
   length-id : (part : PropertyChunk) → length (id_of part) ≡ 4
-  unfolding id_of
   length-id SampleRate = refl
   length-id Channels = refl
   length-id CompressionType = refl
@@ -85,6 +83,6 @@ cmpr_value Dsd = counts 1 (ascii "DSD ") (ascii "not compressed")
 cmpr_value Dst = counts 1 (ascii "DST ") (ascii "DST Encoded")
 
 pub cmpr_value_lem : (sound : Sound) (d1 : Bool) → value (ascii "PROP") (ascii "CMPR") (cmpr_data sound d1) ≡ cmpr_value sound
-unfolding value same cmpr_data compression_data
+unfolding value same compression_data
 cmpr_value_lem Dsd d1 = counted-text 1 (ascii "DSD ") (ascii "not compressed") _ 4 refl (omega arith)
 cmpr_value_lem Dst d1 = counted-text 1 (ascii "DST ") (ascii "DST Encoded") _ 4 refl (omega arith)

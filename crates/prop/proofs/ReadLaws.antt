@@ -15,7 +15,7 @@ use Rattle.prop.specs.declared.property.Properties.{Properties}
 
 module _ (known : Name → Name → Bool) where
   id_shaped : (part : PropertyChunk) (content : List ℕ) → Shaped (dsdiff known) (ascii "PROP") (leaf (id_of part) content stop)
-  unfolding id_of inner same
+  unfolding inner same
   id_shaped SampleRate content = (refl, refl, tt)
   id_shaped Channels content = (refl, refl, tt)
   id_shaped CompressionType content = (refl, refl, tt)

@@ -34,7 +34,7 @@ abbrev pub lsco_is_on : Properties → Bool
 lsco_is_on p = lsco_switch p.layout p.loudspeaker_configuration p.unspecified_loudspeaker_configuration
 
 -- the name of a chunk of PROP
-unfoldable pub id_of : PropertyChunk → Name
+abbrev pub id_of : PropertyChunk → Name
 id_of SampleRate = ascii "FS  "
 id_of Channels = ascii "CHNL"
 id_of CompressionType = ascii "CMPR"
@@ -42,7 +42,7 @@ id_of AbsoluteStartTime = ascii "ABSS"
 id_of LoudspeakerConfiguration = ascii "LSCO"
 
 -- its data
-unfoldable pub content_of : Properties → PropertyChunk → List ℕ
+abbrev pub content_of : Properties → PropertyChunk → List ℕ
 content_of p SampleRate = be 4 sample_rate
 content_of p Channels = chnl_data (channel_names p.layout p.channels p.numbers)
 content_of p CompressionType = cmpr_data p.sound p.d1
@@ -50,7 +50,7 @@ content_of p AbsoluteStartTime = time_bytes (time_of (start_frame p.start))
 content_of p LoudspeakerConfiguration = be 2 (speaker_code p.layout)
 
 -- whether it is written
-unfoldable pub is_property_written : Properties → PropertyChunk → Bool
+abbrev pub is_property_written : Properties → PropertyChunk → Bool
 is_property_written p SampleRate = true
 is_property_written p Channels = true
 is_property_written p CompressionType = true

@@ -9,9 +9,9 @@ ghost use Rattle.prop.specs.Property.{lsco_is_on, id_of, content_of, is_property
 
 use chunk::Cursor;
 use chunk_names::PropertyChunk;
-use prop_fields::compression::Sound;
-use prop_fields::layout::{ChannelNumbers, Layout};
-use prop_fields::start::Start;
+use frame_time::time::{time, time_bytes};
+use prop_fields::compression::{Sound, cmpr_data};
+use prop_fields::layout::{ChannelNumbers, Layout, channel_count, channels, speaker_code};
 
 const SAMPLE_RATE: u32 = 2_822_400;
 
@@ -21,8 +21,8 @@ pub struct Properties {
     pub sound: Sound,
     pub layout: Layout,
     pub channels: u8,
-    pub numbers: ChannelNumbers, // of an unspecified layout
-    pub start: Start,
+    pub numbers: Option<ChannelNumbers>, // of an unspecified layout
+    pub start: Option<u32>, // the file's absolute start, in frames
     pub loudspeaker_configuration: bool, // whether LSCO is written
     pub unspecified_loudspeaker_configuration: bool, // the same of an unspecified layout
     pub d1: bool, // departure D1: the pad counted inside CMPR
@@ -32,20 +32,9 @@ pub struct Properties {
 fn lsco_is_on(p: Properties) -> bool
     ensures { result ≡ lsco_is_on p }
 {
-    let layout = p.layout;
-    match layout {
-        Layout::Stereo => {
-            return p.loudspeaker_configuration;
-        }
-        Layout::ThreeTwo => {
-            return p.loudspeaker_configuration;
-        }
-        Layout::FivePointOne => {
-            return p.loudspeaker_configuration;
-        }
-        Layout::Unspecified => {
-            return p.unspecified_loudspeaker_configuration;
-        }
+    match p.layout {
+        Layout::Stereo | Layout::ThreeTwo | Layout::FivePointOne => p.loudspeaker_configuration,
+        Layout::Unspecified => p.unspecified_loudspeaker_configuration,
     }
 }
 
@@ -53,21 +42,11 @@ fn id(part: PropertyChunk) -> [u8; 4]
     ensures { result ≡ id_of part }
 {
     match part {
-        PropertyChunk::SampleRate => {
-            return *b"FS  ";
-        }
-        PropertyChunk::Channels => {
-            return *b"CHNL";
-        }
-        PropertyChunk::CompressionType => {
-            return *b"CMPR";
-        }
-        PropertyChunk::AbsoluteStartTime => {
-            return *b"ABSS";
-        }
-        PropertyChunk::LoudspeakerConfiguration => {
-            return *b"LSCO";
-        }
+        PropertyChunk::SampleRate => *b"FS  ",
+        PropertyChunk::Channels => *b"CHNL",
+        PropertyChunk::CompressionType => *b"CMPR",
+        PropertyChunk::AbsoluteStartTime => *b"ABSS",
+        PropertyChunk::LoudspeakerConfiguration => *b"LSCO",
     }
 }
 
@@ -75,22 +54,10 @@ fn is_written(p: Properties, part: PropertyChunk) -> bool
     ensures { result ≡ is_property_written p part }
 {
     match part {
-        PropertyChunk::SampleRate => {
-            return true;
-        }
-        PropertyChunk::Channels => {
-            return true;
-        }
-        PropertyChunk::CompressionType => {
-            return true;
-        }
-        PropertyChunk::AbsoluteStartTime => {
-            let start = p.start;
-            return start.is_given();
-        }
-        PropertyChunk::LoudspeakerConfiguration => {
-            return lsco_is_on(p);
-        }
+        PropertyChunk::SampleRate | PropertyChunk::Channels | PropertyChunk::CompressionType =>
+            true,
+        PropertyChunk::AbsoluteStartTime => p.start.is_some(),
+        PropertyChunk::LoudspeakerConfiguration => lsco_is_on(p),
     }
 }
 
@@ -100,11 +67,8 @@ fn chnl_data(c: Cursor, out: &mut [u8], count: u16, names: [[u8; 4]; 6]) -> Curs
     ensures { Appended out.old c.at (be 2 count ++ flat_map (λ (name : Name). name) (take count names)) out.new result.at }
 {
     let mut c = c.be16(out, count);
-    let n = count as usize;
-    let mut i = 0;
-    while i < n {
-        c = c.name(out, names[i]);
-        i += 1;
+    for name in &names[..count as usize] {
+        c = c.name(out, *name);
     }
     c
 }
@@ -114,33 +78,14 @@ fn content(c: Cursor, out: &mut [u8], p: Properties, part: PropertyChunk) -> Cur
     ensures { Appended out.old c.at (content_of p part) out.new result.at }
 {
     match part {
-        PropertyChunk::SampleRate => {
-            return c.be32(out, SAMPLE_RATE);
-        }
+        PropertyChunk::SampleRate => c.be32(out, SAMPLE_RATE),
         PropertyChunk::Channels => {
-            let layout = p.layout;
-            let channels = p.channels;
-            let numbers = p.numbers;
-            let count = prop_fields::layout::channel_count(layout, channels);
-            let names = prop_fields::layout::channels(layout, numbers);
-            return chnl_data(c, out, count, names);
+            let count = channel_count(p.layout, p.channels);
+            chnl_data(c, out, count, channels(p.layout, p.numbers))
         }
-        PropertyChunk::CompressionType => {
-            let sound = p.sound;
-            let d1 = p.d1;
-            return prop_fields::compression::cmpr_data(c, out, sound, d1);
-        }
-        PropertyChunk::AbsoluteStartTime => {
-            let start = p.start;
-            let frame = start.frame();
-            let time = frame_time::time::time(frame as u64);
-            return frame_time::time::time_bytes(c, out, time);
-        }
-        PropertyChunk::LoudspeakerConfiguration => {
-            let layout = p.layout;
-            let code = prop_fields::layout::speaker_code(layout);
-            return c.be16(out, code);
-        }
+        PropertyChunk::CompressionType => cmpr_data(c, out, p.sound, p.d1),
+        PropertyChunk::AbsoluteStartTime => time_bytes(c, out, time(p.start.unwrap_or(0) as u64)),
+        PropertyChunk::LoudspeakerConfiguration => c.be16(out, speaker_code(p.layout)),
     }
 }
 
@@ -151,10 +96,7 @@ fn property_chunk(c: Cursor, out: &mut [u8], p: Properties, part: PropertyChunk)
     if !is_written(p, part) {
         return c;
     }
-    let size_at = c.name(out, id(part));
-    let from = size_at.data_start(out.len());
-    let end = content(Cursor::new(), &mut out[from..], p, part);
-    size_at.close(out, end)
+    c.chunk_of(out, id(part), |c, out| content(c, out, p, part))
 }
 
 // The data of PROP: its form, and its chunks in their order.
@@ -162,10 +104,8 @@ fn property_data(c: Cursor, out: &mut [u8], order: [PropertyChunk; 5], p: Proper
     ensures { Appended out.old c.at (ascii "SND " ++ bytes (property_chunks order p)) out.new result.at }
 {
     let mut c = c.name(out, *b"SND ");
-    let mut i = 0;
-    while i < 5 {
-        c = property_chunk(c, out, p, order[i]);
-        i += 1;
+    for part in &order {
+        c = property_chunk(c, out, p, *part);
     }
     c
 }
@@ -174,8 +114,5 @@ fn property_data(c: Cursor, out: &mut [u8], order: [PropertyChunk; 5], p: Proper
 pub fn property(c: Cursor, out: &mut [u8], order: [PropertyChunk; 5], p: Properties) -> Cursor
     ensures { Appended out.old c.at (bytes (property order p)) out.new result.at }
 {
-    let size_at = c.name(out, *b"PROP");
-    let from = size_at.data_start(out.len());
-    let end = property_data(Cursor::new(), &mut out[from..], order, p);
-    size_at.close(out, end)
+    c.chunk_of(out, *b"PROP", |c, out| property_data(c, out, order, p))
 }

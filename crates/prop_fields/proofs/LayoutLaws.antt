@@ -6,10 +6,11 @@ use native.Mathlib.Omega.{arith}
 use lib.ListN.{length, get_or, take, drop_of_length-le}
 use lib.Seq.{drop-cons}
 use Rattle.chunk_names.specs.Name.{Name}
-use Rattle.prop_fields.specs.Layout.{numbers_of, channel_name, channel_count, six_names, channel_names}
+use Rattle.prop_fields.specs.Layout.{numbers_of, channel_name, channel_count, channel_names}
 use Rattle.prop_fields.specs.declared.layout.Layout.{Layout}
 use Rattle.prop_fields.specs.declared.layout.Layout.TheVariants.{Stereo, ThreeTwo, FivePointOne, Unspecified}
 use Rattle.prop_fields.specs.declared.layout.ChannelNumbers.{ChannelNumbers}
+use Rattle.std.specs.Prelude.{Option}
 
 -- a list of six, element by element
 six : (l : List ℕ) → length l ≡ 6 → l ≡ get_or l 0 0 ∷ get_or l 1 0 ∷ get_or l 2 0 ∷ get_or l 3 0 ∷ get_or l 4 0 ∷ get_or l 5 0 ∷ []
@@ -31,7 +32,6 @@ pub six_names_lem : (l : List ℕ) {a b c d e f : Name} → length l ≡ 6
 six_names_lem l h a b c d e f = rw (a, b, c, d, e, f) (sym (ap (map channel_name) (six l h)))
 
 pub channels-few : (layout : Layout) (channels : ℕ) → channel_count layout channels ≤ 6
-unfolding channel_count
 channels-few Stereo channels = omega arith
 channels-few ThreeTwo channels = omega arith
 channels-few FivePointOne channels = omega arith
@@ -39,13 +39,13 @@ channels-few Unspecified channels = omega arith
 
 -- a name has four bytes
 four_each : (k : ℕ) (l : List ℕ) → length (flat_map (λ (name : Name). name) (take k (map channel_name l))) ≤ 4 * k
-unfolding flat_map channel_name
+unfolding flat_map
 four_each zero l = omega arith
 four_each (suc k) [] = omega arith
 four_each (suc k) (n ∷ l) = omega (arith, four_each k l)
 
-pub names_short : (layout : Layout) (channels : ℕ) (n : ChannelNumbers) → length (flat_map (λ (name : Name). name) (channel_names layout channels n)) ≤ 24
-unfolding channel_names channel_count six_names flat_map
+pub names_short : (layout : Layout) (channels : ℕ) (n : Option ChannelNumbers) → length (flat_map (λ (name : Name). name) (channel_names layout channels n)) ≤ 24
+unfolding flat_map
 names_short Stereo channels n = omega arith
 names_short ThreeTwo channels n = omega arith
 names_short FivePointOne channels n = omega arith

@@ -10,6 +10,6 @@ use Rattle.prop_fields.specs.declared.compression.Sound.TheVariants.{Dsd, Dst}
 unfoldable pub compression_data : Name → List ℕ → Bool → List ℕ
 compression_data kind name d1 = let plain = counts 1 kind name in plain ++ cond d1 (pad (length plain)) []
 
-unfoldable pub cmpr_data : Sound → Bool → List ℕ
+abbrev pub cmpr_data : Sound → Bool → List ℕ
 cmpr_data Dsd d1 = compression_data (ascii "DSD ") (ascii "not compressed") d1
 cmpr_data Dst d1 = compression_data (ascii "DST ") (ascii "DST Encoded") d1

@@ -1,13 +1,14 @@
 -- The absolute start of a file (01: "ABSS if a start is given"; "start (0 if none)"). Assumes nothing.
-use Rattle.std.specs.Prelude.{ℕ, Bool, true, false}
-use Rattle.prop_fields.specs.declared.start.Start.{Start}
-use Rattle.prop_fields.specs.declared.start.Start.TheVariants.{Absent, Given}
+use Rattle.std.specs.Prelude.{ℕ, Bool, is_some, Option}
+use Rattle.std.specs.Option.{unwrap_or}
 
-unfoldable pub is_given : Start → Bool
-is_given Absent = false
-is_given (Given frame) = true
+-- a frame, if one is given
+abbrev pub Start : Type 0
+Start = Option ℕ
+
+abbrev pub is_given : Start → Bool
+is_given start = is_some start
 
 -- 0 if none is given
-unfoldable pub start_frame : Start → ℕ
-start_frame Absent = 0
-start_frame (Given frame) = frame
+abbrev pub start_frame : Start → ℕ
+start_frame start = unwrap_or start 0

@@ -5,27 +5,19 @@ ghost use Rattle.prop_fields.specs.Compression.{compression_data, cmpr_data};
 use chunk::Cursor;
 
 // The sound of a file.
-#[derive(Clone, Copy)]
+#[derive(Clone, Copy, PartialEq, Eq)]
 pub enum Sound {
     Dsd,
     Dst,
 }
-
-const NOT_COMPRESSED: [u8; 14] = *b"not compressed";
-
-const DST_ENCODED: [u8; 11] = *b"DST Encoded";
 
 // The data of CMPR. Departure D1 counts the pad inside an odd one.
 pub fn cmpr_data(c: Cursor, out: &mut [u8], sound: Sound, d1: bool) -> Cursor
     ensures { Appended out.old c.at (cmpr_data sound d1) out.new result.at }
 {
     match sound {
-        Sound::Dsd => {
-            return compression_data(c, out, *b"DSD ", &NOT_COMPRESSED, d1);
-        }
-        Sound::Dst => {
-            return compression_data(c, out, *b"DST ", &DST_ENCODED, d1);
-        }
+        Sound::Dsd => compression_data(c, out, *b"DSD ", b"not compressed", d1),
+        Sound::Dst => compression_data(c, out, *b"DST ", b"DST Encoded", d1),
     }
 }
 
@@ -37,7 +29,8 @@ fn compression_data(c: Cursor, out: &mut [u8], kind: [u8; 4], name: &[u8], d1: b
     let c = c.byte(out, (name.len() % 256) as u8);
     let c = c.bytes(out, name);
     if d1 {
-        return c.pad(out, 5 + name.len() as u64);
+        c.pad(out, 5 + name.len() as u64)
+    } else {
+        c
     }
-    c
 }

@@ -3,8 +3,6 @@ use mathlib.Core.Path.{sym, ◌∙◌}
 use native.Mathlib.Omega.{arith}
 use borrow.Author.Rules.{rules}
 use Rattle.chunk.proofs.AppendLaws.{none}
-use Rattle.chunk.proofs.SizeLastLaws.{chunk-size-last}
-use Rattle.prop.specs.Property.{id_of}
 use Rattle.prop.proofs.PropertyLaws.{content-short, chunk-written, chunk-left-out}
 use Rattle.prop.proofs.property.property_chunk.Goals as goal
 
@@ -12,6 +10,5 @@ pub returns-then-not-is_written : goal.returns-then-not-is_written
 returns-then-not-is_written c = rw (chunk-left-out c.args.p c.args.part (sym c.is_written.ensures ∙ c.if-not-is_written.true)) (none (search rules) (search rules))
 
 pub returns : goal.returns
-returns c = rw (chunk-written c.args.p c.args.part (sym c.is_written.ensures ∙ c.if-not-is_written.false))
-    (chunk-size-last (id_of c.args.part) (omega (arith, content-short c.args.p c.args.part))
-    (rw c.id.ensures at c.name-size_at.ensures) c.data_start-from.ensures c.new.ensures c.content-end.ensures c.close.ensures)
+returns c = rw (chunk-written c.args.p c.args.part (sym c.is_written.ensures ∙ c.if-not-is_written.false), ← c.id.ensures)
+    (c.chunk_of.ensures _ (omega (arith, content-short c.args.p c.args.part)) (search rules))

@@ -1,9 +1,8 @@
--- `layout::unspecified` meets its contract. Assumes nothing.
-use Rattle.prop_fields.proofs.LayoutLaws.{six_names_lem}
+-- `layout::unspecified` meets its contract: an array's `map`. Assumes nothing.
+use Rattle.chunk_names.proofs.ArrayLaws.{mapped}
 use borrow.Author.Rules.{rules}
+use Rattle.prop_fields.specs.Layout.{channel_name}
 use Rattle.prop_fields.proofs.layout.unspecified.Goals as goal
 
 pub returns : goal.returns
-returns c = rw (← c.list-n.ensures)
-    (six_names_lem c.list-n.result (search rules) c.channel_name.ensures c.channel_name-2.ensures c.channel_name-3.ensures c.channel_name-4.ensures
-    c.channel_name-5.ensures c.channel_name-6.ensures)
+returns c = rw (← c.numbers_of.ensures) (mapped channel_name c.map.ensures.items (search rules) 0 (λ p q x y called. search rules))

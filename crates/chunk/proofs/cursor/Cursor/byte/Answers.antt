@@ -6,10 +6,10 @@ use lib.Seq.{set_out}
 use Rattle.chunk.specs.Append.{overlay}
 use Rattle.chunk.proofs.cursor.Cursor.byte.Goals as goal
 
-pub returns-then-at-out : goal.returns-then-at-out
+pub returns-then-self-out : goal.returns-then-self-out
 unfolding overlay
-returns-then-at-out c = search rules
+returns-then-self-out c = search rules
 
-pub returns : goal.returns
+pub returns-else-self-out : goal.returns-else-self-out
 unfolding overlay
-returns c = record { short = search rules; place = search rules; buffer = sym (set_out c.args.out.now c.args.self.at c.args.b (search rules)) }
+returns-else-self-out c = record { short = search rules; place = search rules; buffer = sym (set_out c.args.out.now c.args.self.at c.args.b (search rules)) }

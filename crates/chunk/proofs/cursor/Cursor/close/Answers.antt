@@ -3,4 +3,4 @@ use Rattle.chunk.proofs.SizeLastLaws.{closing}
 use Rattle.chunk.proofs.cursor.Cursor.close.Goals as goal
 
 pub returns : goal.returns
-returns c = closing c.be64-c.ensures c.skip-c.ensures c.pad.ensures
+returns c = closing c.be64.ensures c.skip.ensures c.pad.ensures
