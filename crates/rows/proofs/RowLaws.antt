@@ -2,18 +2,13 @@
 use mathlib.Core.Path.{◌≡◌, sym, ◌∙◌}
 use mathlib.Core.List.{List}
 use Prim.Native.Nat.{ℕ, ◌+◌, ◌*◌, ◌/◌, ◌<◌, ◌≤◌}
-use native.Mathlib.Nat.{le-div_iff_mul-le, div-lt_iff_lt-mul}
+use native.Mathlib.Nat.{div-lt_iff_lt-mul}
 use native.Mathlib.Omega.{arith}
 use lib.ListN.{length, get_or, drop, length-take, get_or-eq_default}
 use lib.Seq.{get_or-take, get_or-drop}
-use Rattle.rows.specs.Row.{width, row_at}
-use Rattle.rows.specs.declared.row.Row.{Row}
-use Rattle.rows.specs.declared.row.Row.TheVariants.{Text, Caller, Track, Marker, Comment}
+use Rattle.rows.specs.Row.{row_at}
 
--- the rows before the last are there, and those after it are not
-pub rows-there : (n w k : ℕ) → 0 < w → k ≤ n / w → k * w ≤ n
-rows-there n w k h l = (le-div_iff_mul-le {k = w} {x = k} {y = n} h).0 l
-
+-- the rows after the last are not there
 pub rows_past : (n w k : ℕ) → 0 < w → n / w < k → n < k * w
 rows_past n w k h l = (div-lt_iff_lt-mul h).0 l
 
@@ -27,11 +22,3 @@ no_word words w k j h = sym (get_or-eq_default {A = ℕ} (row_at w words k) 0 (o
 
 pub word_past : (words : List ℕ) (w k j : ℕ) → j < w → length words ≤ k * w + j → 0 ≡ get_or (row_at w words k) j 0
 word_past words w k j h past = sym (get_or-eq_default {A = ℕ} words 0 past) ∙ row_word words w k j h
-
--- every row has an extent
-pub two-words : (kind : Row) → 2 ≤ width kind
-two-words Text = omega arith
-two-words Caller = omega arith
-two-words Track = omega arith
-two-words Marker = omega arith
-two-words Comment = omega arith

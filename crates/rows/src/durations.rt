@@ -2,8 +2,8 @@
 ghost use Rattle.std.specs.Prelude.{◌≡◌};
 ghost use Rattle.rows.specs.Durations.{short_tracks};
 
-use crate::row::Row;
-use refusal::verdict::{Verdict, refuse_if};
+use crate::row::{Row, word};
+use refusal::verdict::{Refusal, Verdict, refuse_if};
 
 const SHORTEST: u32 = 75;
 
@@ -11,14 +11,14 @@ const SHORTEST: u32 = 75;
 pub fn short_tracks(tracks: &[u32]) -> Verdict
     ensures { result ≡ short_tracks tracks.now }
 {
-    let kind = Row::Track;
-    let n = kind.count(tracks);
-    let mut v = Verdict::Accepted;
-    let mut k = 0;
-    while k < n {
-        let duration = crate::row::word(tracks, 4, k, 1);
-        v = v.or_else(refuse_if(duration < SHORTEST, 18, k as u64 + 1));
-        k += 1;
+    for k in 0..Row::Track.count(tracks) {
+        let short = word(tracks, 4, k, 1) < SHORTEST;
+        refuse_if(
+            short,
+            Refusal::ShortTrack {
+                track: k as u64 + 1,
+            },
+        )?;
     }
-    v
+    Ok(())
 }

@@ -1,5 +1,5 @@
 // Rows of words: what a build is lent of texts, caller chunks, tracks, markers and comments. The last two words of a row are its extent.
-ghost use Rattle.std.specs.Prelude.{◌≡◌, ◌-◌, get_or};
+ghost use Rattle.std.specs.Prelude.{◌≡◌, get_or};
 ghost use Rattle.rows.specs.Row.{width, row_at, extent_of, count_of_rows, cut_short};
 
 use texts::extent::Extent;
@@ -20,21 +20,10 @@ impl Row {
         ensures { result ≡ width self }
     {
         match self {
-            Row::Text => {
-                return 2;
-            }
-            Row::Caller => {
-                return 3;
-            }
-            Row::Track => {
-                return 4;
-            }
-            Row::Marker => {
-                return 4;
-            }
-            Row::Comment => {
-                return 9;
-            }
+            Row::Text => 2,
+            Row::Caller => 3,
+            Row::Track | Row::Marker => 4,
+            Row::Comment => 9,
         }
     }
 
@@ -42,16 +31,14 @@ impl Row {
     pub fn count(self, rows: &[u32]) -> usize
         ensures { result ≡ count_of_rows self rows.now }
     {
-        let w = self.width();
-        rows.len() / w
+        rows.len() / self.width()
     }
 
     // Whether the last row is cut short.
     pub fn is_cut_short(self, rows: &[u32]) -> bool
         ensures { result ≡ cut_short self rows.now }
     {
-        let w = self.width();
-        rows.len() % w != 0
+        rows.len() % self.width() != 0
     }
 }
 
@@ -59,27 +46,11 @@ impl Row {
 pub fn word(rows: &[u32], w: usize, k: usize, j: usize) -> u32
     ensures { result ≡ get_or (row_at w rows.now k) j 0 }
 {
-    if w <= j {
-        return 0;
+    if j < w && k <= rows.len() / w {
+        rows[k * w..].get(j).copied().unwrap_or(0)
+    } else {
+        0
     }
-    if rows.len() / w < k {
-        return 0;
-    }
-    let at = k * w;
-    if rows.len() - at <= j {
-        return 0;
-    }
-    rows[at + j]
-}
-
-// a less b, 0 if b is larger.
-fn less(a: usize, b: usize) -> usize
-    ensures { result ≡ a - b }
-{
-    if a <= b {
-        return 0;
-    }
-    a - b
 }
 
 // The extent of row k: its last two words.
@@ -87,7 +58,7 @@ pub fn extent_at(rows: &[u32], w: usize, k: usize) -> Extent
     ensures { result ≡ extent_of w (row_at w rows.now k) }
 {
     Extent {
-        start: word(rows, w, k, less(w, 2)),
-        length: word(rows, w, k, less(w, 1)),
+        start: word(rows, w, k, w.saturating_sub(2)),
+        length: word(rows, w, k, w.saturating_sub(1)),
     }
 }

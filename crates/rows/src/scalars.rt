@@ -3,7 +3,7 @@ ghost use Rattle.std.specs.Prelude.{◌≡◌};
 ghost use Rattle.texts.specs.Extent.{part};
 ghost use Rattle.rows.specs.Scalars.{is_no_scalar, has_no_scalar, no_scalars};
 
-use crate::row::Row;
+use crate::row::{Row, extent_at};
 use texts::extent::Extent;
 
 fn is_no_scalar(x: u32) -> bool
@@ -17,10 +17,8 @@ fn has_no_scalar(values: &[u32]) -> bool
     ensures { result ≡ has_no_scalar values.now }
 {
     let mut found = false;
-    let mut i = 0;
-    while i < values.len() {
-        found = found | is_no_scalar(values[i]);
-        i += 1;
+    for x in values {
+        found |= is_no_scalar(*x);
     }
     found
 }
@@ -29,9 +27,7 @@ fn has_no_scalar(values: &[u32]) -> bool
 fn part_has_no_scalar(pool: &[u32], e: Extent) -> bool
     ensures { result ≡ has_no_scalar (part pool.now e) }
 {
-    let first = e.first(pool.len());
-    let end = e.end(pool.len());
-    has_no_scalar(&pool[first..end])
+    has_no_scalar(&pool[e.first(pool.len())..e.end(pool.len())])
 }
 
 // The same of the texts that rows name.
@@ -39,13 +35,5 @@ pub fn no_scalars(kind: Row, rows: &[u32], pool: &[u32]) -> bool
     ensures { result ≡ no_scalars kind rows.now pool.now }
 {
     let w = kind.width();
-    let n = kind.count(rows);
-    let mut found = false;
-    let mut k = 0;
-    while k < n {
-        let e = crate::row::extent_at(rows, w, k);
-        found = found | part_has_no_scalar(pool, e);
-        k += 1;
-    }
-    found
+    (0..kind.count(rows)).any(|k| part_has_no_scalar(pool, extent_at(rows, w, k)))
 }

@@ -4,7 +4,6 @@ use mathlib.Core.Bool.{Bool, ◌||◌}
 use mathlib.Core.List.{List}
 use Prim.Native.Nat.{ℕ, ◌+◌, ◌-◌, ◌/◌, ◌^◌, ◌<◌}
 use native.Mathlib.Omega.{arith}
-use lib.Dec.{ltb}
 use lib.ListN.{length, get_or}
 use Rattle.refusal.specs.Below.{any}
 use Rattle.refusal.proofs.BelowLaws.{below_none, below_more}
@@ -17,15 +16,14 @@ abbrev wrong : List ℕ → ℕ → Bool
 wrong ls k = length_wrong (get_or ls k 0)
 
 pub loop-i-init : goal.loop-i-init
-loop-i-init c = (omega arith, below_none _ _ _, below_none _ _ _)
+loop-i-init c = (below_none _ _ _, below_none _ _ _)
 
 pub loop-i-preserved : goal.loop-i-preserved
 loop-i-preserved c = let j = length c.args.lengths.now / 2 + c.loop-i.i in
-    let h : get_or c.args.lengths.now c.loop-i.i 0 < 2 ^ 32 = omega (arith, c.shared_slice_known-in-loop-i-1.given c.loop-i.i) in
-    let k : get_or c.args.lengths.now j 0 < 2 ^ 32 = omega (arith, c.shared_slice_known-in-loop-i-2-1.given j) in (
-      omega arith,
-      below_more _ _ _ c.loop-i.i c.loop-i.invariant.1 (ap (ltb 65_535) c.one_less-low.ensures ∙ before-wrong (get_or c.args.lengths.now c.loop-i.i 0) h) (joined c.loop-i.low _),
-      below_more _ _ _ c.loop-i.i c.loop-i.invariant.2 (ap (ltb 65_535) c.one_less-high.ensures ∙ before-wrong (get_or c.args.lengths.now j 0) k) (joined c.loop-i.high _),
+    let h : get_or c.args.lengths.now c.loop-i.i 0 < 2 ^ 32 = omega (arith, c.type_inv.lengths c.loop-i.i) in
+    let k : get_or c.args.lengths.now j 0 < 2 ^ 32 = omega (arith, c.type_inv.lengths j) in (
+      below_more _ _ _ c.loop-i.i c.loop-i.invariant.0 (before-wrong (get_or c.args.lengths.now c.loop-i.i 0) h) (joined c.loop-i.low _),
+      below_more _ _ _ c.loop-i.i c.loop-i.invariant.1 (before-wrong (get_or c.args.lengths.now j 0) k) (joined c.loop-i.high _),
     )
 
 pub returns : goal.returns
@@ -35,6 +33,6 @@ returns c = let m = length c.args.lengths.now / 2 in
     let i : c.loop-i.i ≡ m + odd = omega arith in
     let n : m + (m + odd) ≡ length c.args.lengths.now = omega arith in
     joined c.loop-i.low c.loop-i.high
-    ∙ ap₂ (λ (a b : Bool). a || b) (c.loop-i.invariant.1 ∙ ap (any (wrong c.args.lengths.now)) i) (c.loop-i.invariant.2 ∙ ap (any (λ k. wrong c.args.lengths.now (m + k))) i)
+    ∙ ap₂ (λ (a b : Bool). a || b) (c.loop-i.invariant.0 ∙ ap (any (wrong c.args.lengths.now)) i) (c.loop-i.invariant.1 ∙ ap (any (λ k. wrong c.args.lengths.now (m + k))) i)
     ∙ halves (wrong c.args.lengths.now) m odd
     ∙ ap (any (wrong c.args.lengths.now)) n

@@ -2,7 +2,7 @@
 use mathlib.Core.Path.{◌≡◌}
 use mathlib.Core.Bool.{Bool}
 use mathlib.Core.List.{List}
-use Prim.Native.Nat.{ℕ, ◌+◌, ◌-◌, ◌≤◌}
+use Prim.Native.Nat.{ℕ, ◌+◌}
 use lib.Dec.{ltb}
 use lib.ListN.{get_or}
 use Rattle.refusal.specs.Below.{any}
@@ -14,7 +14,4 @@ abbrev wrong : List ℕ → ℕ → Bool
 wrong ls k = length_wrong (get_or ls k 0)
 
 abbrev pub invariant-loop-i : goal.invariant-loop-i
-invariant-loop-i l = (l.i ≤ l.half) × (ltb 65_535 l.low ≡ any (wrong l.lengths) l.i) × (ltb 65_535 l.high ≡ any (λ k. wrong l.lengths (l.second + k)) l.i)
-
-abbrev pub decreases-loop-i : goal.decreases-loop-i
-decreases-loop-i l = l.half - l.i
+invariant-loop-i l = (ltb 65_535 l.low ≡ any (wrong l.lengths) l.i) × (ltb 65_535 l.high ≡ any (λ k. wrong l.lengths (l.second + k)) l.i)

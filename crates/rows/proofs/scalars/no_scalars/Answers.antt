@@ -1,17 +1,19 @@
 -- The goals that a check leaves.
-use mathlib.Core.Path.{refl}
+use mathlib.Core.Path.{refl, ◌∙◌}
 use native.Mathlib.Omega.{arith}
-use Rattle.rows.specs.Scalars.{no_scalars}
-use Rattle.refusal.proofs.BelowLaws.{below_none, below_more, below_all}
+use Rattle.std.proofs.Common.{rules, tests}
+use Rattle.std.proofs.lemmas.Iterator.{YieldsList-from_range}
+use Rattle.std.proofs.lemmas.Iterator.Search.{any_from_yields_List}
+use Rattle.texts.specs.Extent.{part}
+use Rattle.rows.specs.Row.{row_at, extent_of}
+use Rattle.rows.specs.Scalars.{has_no_scalar, no_scalars}
+use Rattle.refusal.proofs.AnyLaws.{any-range}
 use Rattle.rows.proofs.scalars.no_scalars.Goals as goal
-
-pub loop-k-init : goal.loop-k-init
-loop-k-init c = (omega arith, below_none _ _ _)
-
-pub loop-k-preserved : goal.loop-k-preserved
-loop-k-preserved c = let found = rw c.extent_at-e.ensures at c.part_has_no_scalar-found.ensures in
-    (omega arith, below_more _ _ _ _ c.loop-k.invariant.1 found refl)
 
 pub returns : goal.returns
 unfolding no_scalars
-returns c = rw (← c.count-n.ensures, ← c.width-w.ensures) (below_all _ _ _ _ _ c.loop-k.invariant.1 c.loop-k.invariant.0 c.loop-k-test.false)
+returns c =
+    rw (← c.count.ensures, ← c.width-w.ensures)
+    (any_from_yields_List (λ k. has_no_scalar (part c.args.pool.now (extent_of c.width-w.result (row_at c.width-w.result c.args.rows.now k)))) _ _ _ c.any.ensures.ran
+    (YieldsList-from_range 0 c.count.result c.count.result refl (omega arith)) (λ x b q k. search (rules, tests))
+    ∙ any-range _ _)
