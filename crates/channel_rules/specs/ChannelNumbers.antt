@@ -1,7 +1,7 @@
 -- 26: "One exceeds 999 (26, 27: the first at fault)". 27: "One repeats". Assumes nothing.
 use Rattle.std.specs.Prelude.{ℕ, not, List, [], ◌∷◌, eqb, ltb, length, get_or, take}
-use Rattle.refusal.specs.declared.verdict.Verdict.{Verdict}
-use Rattle.refusal.specs.Verdict.{refuse_if, first_of}
+use Rattle.refusal.specs.declared.verdict.Refusal.TheVariants.{ChannelNumberTooLarge, ChannelNumberTwice}
+use Rattle.refusal.specs.Verdict.{Verdict, refuse_if, first_of}
 use Rattle.refusal.specs.Below.{first_refused}
 use Rattle.refusal.specs.Orders.{times}
 
@@ -9,8 +9,8 @@ use Rattle.refusal.specs.Orders.{times}
 abbrev pub number_fault : List ℕ → ℕ → Verdict
 number_fault numbers k =
     first_of
-    (refuse_if (ltb 999 (get_or numbers k 0)) 26 0
-    ∷ refuse_if (not (eqb (times (take k numbers) (get_or numbers k 0)) 0)) 27 0
+    (refuse_if (ltb 999 (get_or numbers k 0)) ChannelNumberTooLarge
+    ∷ refuse_if (not (eqb (times (take k numbers) (get_or numbers k 0)) 0)) ChannelNumberTwice
     ∷ [])
 
 unfoldable pub number_faults : List ℕ → Verdict

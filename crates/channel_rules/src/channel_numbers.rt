@@ -2,8 +2,7 @@
 ghost use Rattle.std.specs.Prelude.{◌≡◌, ◌<◌, length};
 ghost use Rattle.channel_rules.specs.ChannelNumbers.{number_fault, number_faults};
 
-use refusal::orders::times;
-use refusal::verdict::{Verdict, refuse_if};
+use refusal::verdict::{Refusal, Verdict, refuse_if};
 
 const LARGEST: u32 = 999;
 
@@ -13,21 +12,16 @@ fn number_fault(numbers: &[u32], k: usize) -> Verdict
     ensures { result ≡ number_fault numbers.now k }
 {
     let number = numbers[k];
-    let before = times(&numbers[..k], number);
-    let v26 = refuse_if(LARGEST < number, 26, 0);
-    let v27 = refuse_if(before != 0, 27, 0);
-    v26.or_else(v27)
+    refuse_if(LARGEST < number, Refusal::ChannelNumberTooLarge)?;
+    refuse_if(numbers[..k].contains(&number), Refusal::ChannelNumberTwice)
 }
 
 // The first number at fault.
 pub fn number_faults(numbers: &[u32]) -> Verdict
     ensures { result ≡ number_faults numbers.now }
 {
-    let mut v = Verdict::Accepted;
-    let mut k = 0;
-    while k < numbers.len() {
-        v = v.or_else(number_fault(numbers, k));
-        k += 1;
+    for k in 0..numbers.len() {
+        number_fault(numbers, k)?;
     }
-    v
+    Ok(())
 }

@@ -1,12 +1,14 @@
 -- How often a number is in a row; and how much names make, each at most once. Assumes nothing.
 use mathlib.Core.Path.{◌≡◌, refl}
-use mathlib.Core.Bool.{Bool, true, false, cond}
+use mathlib.Core.Bool.{Bool, true, false, cond, not, ◌||◌}
 use mathlib.Core.List.{List, [], ◌∷◌, map, flat_map}
 use Prim.Native.Nat.{ℕ, zero, suc, ◌+◌, ◌≤◌, ◌<◌}
 use native.Mathlib.Omega.{arith}
 use lib.Dec.{eqb, ltb}
 use lib.ListN.{length, get_or, length-append}
-use borrow.Author.Tests.{eqb-true, eqb-false, ltb-true, ltb-false, lt-ltb, le-ltb}
+use native.Mathlib.Nat.{zero-add}
+use borrow.Author.Tests.{eqb-true, eqb-false, ne_eqb, ltb-true, ltb-false, lt-ltb, le-ltb}
+use Rattle.std.specs.List.{list_any}
 use Rattle.chunk_names.specs.declared.InfoChunk.{InfoChunk}
 use Rattle.chunk_names.specs.declared.InfoChunk.TheVariants.{EditedMasterId, Markers, Artist, Title}
 use Rattle.chunk_names.specs.declared.LocalChunk.{LocalChunk}
@@ -27,6 +29,15 @@ times-cons x xs r = how_many-front (λ k. eqb (get_or (x ∷ xs) k 0) r) (length
 pub times_none : (r : ℕ) → times [] r ≡ 0
 unfolding times below
 times_none r = refl
+
+-- whether a number is in a row at all
+pub contains-times : (x : ℕ) (xs : List ℕ) → list_any (λ y. eqb y x) xs ≡ not (eqb (times xs x) 0)
+contains-times x [] = rw (times_none x)
+contains-times x (y ∷ xs) = go (contains-times x xs) (eqb y x) refl
+  where
+    go : list_any (λ z. eqb z x) xs ≡ not (eqb (times xs x) 0) → (b : Bool) → eqb y x ≡ b → (eqb y x || list_any (λ z. eqb z x) xs) ≡ not (eqb (times (y ∷ xs) x) 0)
+    go rest true e = rw (times-cons y xs x, e, ne_eqb (1 + times xs x) 0 (λ z. absurd (omega arith)))
+    go rest false e = rw (times-cons y xs x, e, rest, zero-add)
 
 -- the numbers of the names are below how many there are
 pub info_rank_low : (c : InfoChunk) → info_rank c < 4

@@ -2,7 +2,7 @@
 ghost use Rattle.std.specs.Prelude.{◌≡◌};
 ghost use Rattle.row_extents.specs.Extents.{too_large, outside_pool};
 
-use rows::row::Row;
+use rows::row::{Row, extent_at};
 
 // What is wrong with rows: an extent or the rows are too many (1); an extent, or the last row, runs outside its pool (2).
 #[derive(Clone, Copy)]
@@ -20,12 +20,10 @@ pub fn extents(kind: Row, rows: &[u32], most: u64, longest: u32, pool: usize) ->
     let n = kind.count(rows);
     let mut long = false;
     let mut outside = false;
-    let mut k = 0;
-    while k < n {
-        let e = rows::row::extent_at(rows, w, k);
-        long = long | (longest < e.length);
-        outside = outside | ((pool as u64) < e.start as u64 + e.length as u64);
-        k += 1;
+    for k in 0..n {
+        let e = extent_at(rows, w, k);
+        long |= longest < e.length;
+        outside |= (pool as u64) < e.start as u64 + e.length as u64;
     }
     RowFaults {
         too_large: (most < n as u64) | long,
