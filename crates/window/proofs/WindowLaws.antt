@@ -72,10 +72,6 @@ next_place xs a A B =
     (λ h. let e : min (length A) (length xs - a) ≡ length A = omega arith in rw e (overlay-append xs a A B))
     (lt-or-le (length xs - a) (length A))
 
-pub length-shown : (bytes : List ℕ) (w : Window) (out : List ℕ) → length (shown bytes w out) ≡ length out
-unfolding shown
-length-shown bytes w out = length-overlay out w.at (drop w.skip bytes)
-
 infixl 5 ◌then◌
 -- a piece and then another are the two pieces joined
 pub ◌then◌ : {a b : List ℕ} {w v u : Window} {out mid last : List ℕ} → Wrote a w out mid v → Wrote b v mid last u → Wrote (a ++ b) w out last u
