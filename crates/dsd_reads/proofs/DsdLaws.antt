@@ -107,7 +107,7 @@ module _ (f n : ℕ) where
       let short : f * later < within + count =
       ⊎_elim
       (λ l. let one : f * 1 ≤ f * later = mul-le-mul_left f (omega arith) in omega (arith, t.1))
-      (λ z. let none : later ≡ 0 = omega arith in rw none (omega arith))
+      (λ (z : later ≤ 0). let none : later ≡ 0 = omega arith in rw none (omega arith))
       (lt-or-le 0 later) in
       let end : first + 1 + later ≡ suc (first + later) = omega arith in
       rw end
