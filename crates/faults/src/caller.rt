@@ -28,7 +28,10 @@ fn is_no_name(name: [u8; 4]) -> bool
     ensures { result ≡ is_no_name name }
 {
     !name.iter().all(|byte| printable(*byte as u32))
-        | name.iter().zip(&name[1..]).any(|(a, b)| space_then_more(*a, *b))
+        | name
+            .iter()
+            .zip(&name[1..])
+            .any(|(a, b)| space_then_more(*a, *b))
 }
 
 // 4 and 5 of one name.

@@ -19,8 +19,8 @@ returns c =
     let four : length name ≡ 4 = c.well_formed.0.1.0.1 in
     let rest : length (drop 1 name) ≤ 3 = simp length-drop (omega arith) in
     ap₂ (λ (a b : Bool). not a || b)
-      (all_from_yields_List printable _ _ _ c.all.ensures.ran (YieldsList-from_slice name (cc)) (λ x b q k. search (rules, tests)) ∙ all-text name)
-      (any_from_yields_List (λ p. space_then_more p.0 p.1) c.any.new.self _ _ c.any.ensures.ran
-        (YieldsList-from_zip (YieldsList-from_slice name (cc)) (YieldsList-from_slice (drop 1 name) (c.zip.ensures.second.0 ∙ take_all 3 (drop 1 name) rest)))
-        (λ x b q k. search (rules, tests))
-      ∙ all-pairs name)
+    (all_from_yields_List printable _ _ _ c.all.ensures.ran (YieldsList-from_slice name (cc)) (λ x b q k. search (rules, tests)) ∙ all-text name)
+    (any_from_yields_List (λ p. space_then_more p.0 p.1) c.any.new.self _ _ c.any.ensures.ran
+    (YieldsList-from_zip (YieldsList-from_slice name (cc)) (YieldsList-from_slice (drop 1 name) (c.zip.ensures.second.0 ∙ take_all 3 (drop 1 name) rest)))
+    (λ x b q k. search (rules, tests))
+    ∙ all-pairs name)
