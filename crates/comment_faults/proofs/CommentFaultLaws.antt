@@ -18,7 +18,8 @@ use Rattle.comt.proofs.CommentLaws.{first_comments, comments-next, comments_all}
 use Rattle.refusal.specs.Below.{below, how_many}
 use Rattle.rows.specs.Row.{row_at}
 use Rattle.comment_faults.specs.Comments.{is_written_comment, date_wrong, reference_wrong, written_at, comment_at, comment_fault, comment_faults}
-use Rattle.refusal.specs.declared.verdict.Verdict.TheVariants.{Accepted}
+use Rattle.refusal.specs.declared.verdict.Refusal.TheVariants.{CommentDate, CommentReference, CommentsCount}
+use Rattle.std.specs.Prelude.{Ok}
 use Rattle.refusal.proofs.VerdictLaws.{after, if-accepted, none-refused}
 
 -- one more at most 65,535 times
@@ -57,12 +58,12 @@ module _ (comments pool : List ℕ) (options : TextOptions) (channels : ℕ) whe
   counted (suc i) h = let s = step i (omega arith) in rw (counted i (omega arith)) at (rw add-one at s)
 
   -- 36 of comment k
-  at : (k : ℕ) → comment_fault comments pool options channels k ≡ Accepted → (w k && leb 65_535 (how_many w k)) ≡ false
+  at : (k : ℕ) → comment_fault comments pool options channels k ≡ Ok tt → (w k && leb 65_535 (how_many w k)) ≡ false
   at k e =
       let c = comment_at comments pool options channels k in
-      if-accepted (w k && leb 65_535 (how_many w k)) 36 0 (after (reference_wrong c channels) 35 0 (after (date_wrong c) 34 0 e).1).1
+      if-accepted (w k && leb 65_535 (how_many w k)) CommentsCount (after (reference_wrong c channels) CommentReference (after (date_wrong c) CommentDate e).1).1
 
-  pub few-written : comment_faults comments pool options channels ≡ Accepted → length (written_comments pool comments options) ≤ 65_535
+  pub few-written : comment_faults comments pool options channels ≡ Ok tt → length (written_comments pool comments options) ≤ 65_535
   unfolding comment_faults
   few-written e =
       let n = length comments / 9 in

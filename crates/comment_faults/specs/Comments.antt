@@ -6,9 +6,9 @@ use Rattle.texts.specs.Text.{text_bytes, is_written}
 use Rattle.comt.specs.Comment.{comment_of}
 use Rattle.texts.specs.declared.text.TextOptions.{TextOptions}
 use Rattle.comt.specs.declared.comt.Comment.{Comment}
-use Rattle.refusal.specs.declared.verdict.Verdict.{Verdict}
+use Rattle.refusal.specs.declared.verdict.Refusal.TheVariants.{CommentDate, CommentReference, CommentsCount}
 use Rattle.rows.specs.declared.row.Row.TheVariants as row
-use Rattle.refusal.specs.Verdict.{refuse_if, first_of}
+use Rattle.refusal.specs.Verdict.{Verdict, refuse_if, first_of}
 use Rattle.refusal.specs.Below.{first_refused, how_many}
 use Rattle.rows.specs.Row.{row_at, count_of_rows}
 
@@ -30,9 +30,9 @@ is_written_comment pool options c = is_written options (length (text_bytes optio
 abbrev pub fault_of : ℕ → Comment → Bool → ℕ → Verdict
 fault_of channels c written before =
     first_of
-    (refuse_if (date_wrong c) 34 0
-    ∷ refuse_if (reference_wrong c channels) 35 0
-    ∷ refuse_if (written && leb 65_535 before) 36 0
+    (refuse_if (date_wrong c) CommentDate
+    ∷ refuse_if (reference_wrong c channels) CommentReference
+    ∷ refuse_if (written && leb 65_535 before) CommentsCount
     ∷ [])
 
 module _ (comments pool : List ℕ) (options : TextOptions) (channels : ℕ) where

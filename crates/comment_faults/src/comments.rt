@@ -5,10 +5,10 @@ ghost use Rattle.rows.specs.Row.{row_at};
 ghost use Rattle.comment_faults.specs.Comments.{date_wrong, most_reference, reference_wrong, is_written_comment, fault_of, comment_faults};
 
 use comt::comt::Comment;
-use refusal::verdict::{Verdict, refuse_if};
+use refusal::verdict::{Refusal, Verdict, refuse_if};
 use rows::row::{Row, word};
 use texts::extent::Extent;
-use texts::text::TextOptions;
+use texts::text::{TextOptions, text_count};
 
 // What the count of COMT can tell.
 const MOST_COMMENTS: usize = 65_535;
@@ -44,60 +44,46 @@ fn date_wrong(c: Comment) -> bool
 fn most_reference(kind: u32, channels: u8) -> u32
     ensures { result ≡ most_reference kind channels }
 {
-    if kind == 1 {
-        return channels as u32;
+    match kind {
+        1 => channels as u32,
+        2 => 2,
+        _ => 4,
     }
-    if kind == 2 {
-        return 2;
-    }
-    4
 }
 
 // Whether the reference is out of range, or the kind is none. A general comment's reference is not looked at.
 fn reference_wrong(c: Comment, channels: u8) -> bool
     ensures { result ≡ reference_wrong c channels }
 {
-    if c.kind == 0 {
-        return false;
-    }
-    (3 < c.kind) | (most_reference(c.kind, channels) < c.reference)
+    c.kind != 0 && (3 < c.kind || most_reference(c.kind, channels) < c.reference)
 }
 
 // Whether it will be written.
 fn is_written(c: Comment, pool: &[u32], options: TextOptions) -> bool
     ensures { result ≡ is_written_comment pool.now options c }
 {
-    let rule = options.rule;
-    let text = c.text;
-    let count = texts::text::text_count(rule, pool, text);
-    options.writes(count)
+    options.writes(text_count(options.rule, pool, c.text))
 }
 
 // 34 to 36 of a comment, after so many that will be written.
 fn fault_of(c: Comment, written: bool, before: usize, channels: u8) -> Verdict
     ensures { result ≡ fault_of channels c written before }
 {
-    let v34 = refuse_if(date_wrong(c), 34, 0);
-    let v35 = refuse_if(reference_wrong(c, channels), 35, 0);
-    let v36 = refuse_if(written & (MOST_COMMENTS <= before), 36, 0);
-    v34.or_else(v35.or_else(v36))
+    refuse_if(date_wrong(c), Refusal::CommentDate)?;
+    refuse_if(reference_wrong(c, channels), Refusal::CommentReference)?;
+    refuse_if(written & (MOST_COMMENTS <= before), Refusal::CommentsCount)
 }
 
 // The first comment at fault.
 pub fn comment_faults(comments: &[u32], pool: &[u32], options: TextOptions, channels: u8) -> Verdict
     ensures { result ≡ comment_faults comments.now pool.now options channels }
 {
-    let kind = Row::Comment;
-    let n = kind.count(comments);
-    let mut v = Verdict::Accepted;
-    let mut before: usize = 0;
-    let mut k = 0;
-    while k < n {
+    let mut before = 0;
+    for k in 0..Row::Comment.count(comments) {
         let c = comment_at(comments, k);
         let written = is_written(c, pool, options);
-        v = v.or_else(fault_of(c, written, before, channels));
-        before += refusal::orders::one_if(written);
-        k += 1;
+        fault_of(c, written, before, channels)?;
+        before += usize::from(written);
     }
-    v
+    Ok(())
 }

@@ -4,9 +4,9 @@ use Rattle.std.specs.Prelude.{ℕ, Bool, true, false, not, ◌&&◌, ◌||◌, L
 use Rattle.chunk.specs.Number.{be}
 use Rattle.chunk_names.specs.Name.{Name, reserved}
 use Rattle.texts.specs.Text.{printable}
-use Rattle.refusal.specs.declared.verdict.Verdict.{Verdict}
+use Rattle.refusal.specs.declared.verdict.Refusal.TheVariants.{CallerName, ReservedName}
 use Rattle.rows.specs.declared.row.Row.TheVariants.{Caller}
-use Rattle.refusal.specs.Verdict.{refuse_if, first_of}
+use Rattle.refusal.specs.Verdict.{Verdict, refuse_if, first_of}
 use Rattle.refusal.specs.Below.{first_refused}
 use Rattle.rows.specs.Row.{row_at, count_of_rows}
 
@@ -32,7 +32,7 @@ is_no_name name = not (all_text name) || spaced name
 
 -- 4 and 5 of one name
 abbrev pub name_fault : Name → Verdict
-name_fault name = first_of (refuse_if (is_no_name name) 4 0 ∷ refuse_if (reserved name) 5 0 ∷ [])
+name_fault name = first_of (refuse_if (is_no_name name) CallerName ∷ refuse_if (reserved name) ReservedName ∷ [])
 
 -- the name of caller chunk k: the four bytes of its row's first word
 abbrev pub caller_name : List ℕ → ℕ → Name

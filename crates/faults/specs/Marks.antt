@@ -3,9 +3,9 @@
 use Rattle.std.specs.Prelude.{ℕ, ◌/◌, ◌^◌, Bool, not, ◌&&◌, ◌||◌, List, [], ◌∷◌, eqb, ltb, get_or}
 use Rattle.texts.specs.Extent.{part}
 use Rattle.texts.specs.declared.text.TextRule.{TextRule}
-use Rattle.refusal.specs.declared.verdict.Verdict.{Verdict}
+use Rattle.refusal.specs.declared.verdict.Refusal.TheVariants as refused
 use Rattle.rows.specs.declared.row.Row.TheVariants.{Marker}
-use Rattle.refusal.specs.Verdict.{refuse_if, first_of}
+use Rattle.refusal.specs.Verdict.{Verdict, refuse_if, first_of}
 use Rattle.refusal.specs.Below.{first_refused}
 use Rattle.rows.specs.Row.{row_at, extent_of, count_of_rows}
 use Rattle.faults.specs.TextBytes.{has_no_text}
@@ -22,8 +22,8 @@ module _ (markers raw : List ℕ) (rule : TextRule) (first end : ℕ) where
   abbrev pub marker_fault : ℕ → Verdict
   marker_fault k =
       first_of
-      (refuse_if ((ltb (get_or (row_at 4 markers k) 0 0) first || ltb end (get_or (row_at 4 markers k) 0 0)) || is_no_kind (kind_in (get_or (row_at 4 markers k) 1 0))) 32 0
-      ∷ refuse_if (has_no_text rule (part raw (extent_of 4 (row_at 4 markers k)))) 33 0
+      (refuse_if ((ltb (get_or (row_at 4 markers k) 0 0) first || ltb end (get_or (row_at 4 markers k) 0 0)) || is_no_kind (kind_in (get_or (row_at 4 markers k) 1 0))) refused.Marker
+      ∷ refuse_if (has_no_text rule (part raw (extent_of 4 (row_at 4 markers k)))) refused.MarkerText
       ∷ [])
 
   -- the first marker at fault

@@ -4,17 +4,15 @@ ghost use Rattle.texts.specs.Extent.{part};
 ghost use Rattle.faults.specs.TextBytes.{has_no_text};
 
 use texts::extent::Extent;
-use texts::text::TextRule;
+use texts::text::{TextRule, passes};
 
 // Whether one of the bytes does not pass as itself.
 fn has_no_text(rule: TextRule, bytes: &[u8]) -> bool
     ensures { result ≡ has_no_text rule bytes.now }
 {
     let mut found = false;
-    let mut i = 0;
-    while i < bytes.len() {
-        found = found | !texts::text::passes(rule, bytes[i] as u32);
-        i += 1;
+    for byte in bytes {
+        found |= !passes(rule, *byte as u32);
     }
     found
 }
@@ -23,7 +21,5 @@ fn has_no_text(rule: TextRule, bytes: &[u8]) -> bool
 pub fn part_has_no_text(rule: TextRule, raw: &[u8], e: Extent) -> bool
     ensures { result ≡ has_no_text rule (part raw.now e) }
 {
-    let first = e.first(raw.len());
-    let end = e.end(raw.len());
-    has_no_text(rule, &raw[first..end])
+    has_no_text(rule, &raw[e.first(raw.len())..e.end(raw.len())])
 }

@@ -1,8 +1,7 @@
 -- `caller::name_of` meets its contract. Assumes nothing.
-use native.Mathlib.Nat.{div-div-eq-div-mul}
-use Rattle.chunk.specs.Number.{be}
+use mathlib.Core.Path.{◌∙◌}
+use Rattle.chunk.proofs.NumberLaws.{high-first}
 use Rattle.faults.proofs.caller.name_of.Goals as goal
 
 pub returns : goal.returns
-unfolding be
-returns c = simp div-div-eq-div-mul
+returns c = c.to_be_bytes.ensures ∙ high-first 4 c.args.word

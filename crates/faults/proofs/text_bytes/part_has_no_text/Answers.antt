@@ -3,4 +3,4 @@ use Rattle.texts.proofs.ExtentLaws.{part_places}
 use Rattle.faults.proofs.text_bytes.part_has_no_text.Goals as goal
 
 pub returns : goal.returns
-returns c = rw (c.first-first.ensures, c.end-end.ensures, part_places c.args.raw.now c.args.e) at c.has_no_text.ensures
+returns c = rw (c.first.ensures, c.end.ensures, part_places c.args.raw.now c.args.e) at c.has_no_text.ensures
