@@ -7,17 +7,21 @@ ghost use Rattle.calendar.specs.Order.{earlier};
 ghost use Rattle.calendar.specs.Window.{falls_in};
 ghost use Rattle.abi.specs.Dates.{stamp_of_words, FallsTold};
 
-use calendar::date::Stamp;
+use calendar::date::{Stamp, date_fault, note_fault};
+use calendar::order::earlier;
+use calendar::window::{falls_in, falls_value};
+use refusal::verdict::number_of;
 
 fn stamp(words: [u32; 5]) -> Stamp
     ensures { result ≡ stamp_of_words words }
 {
+    let [year, month, day, hour, minutes] = words;
     Stamp {
-        year: words[0],
-        month: words[1],
-        day: words[2],
-        hour: words[3],
-        minutes: words[4],
+        year,
+        month,
+        day,
+        hour,
+        minutes,
     }
 }
 
@@ -26,8 +30,7 @@ fn stamp(words: [u32; 5]) -> Stamp
 pub extern "C" fn jangqeruz_date_fault(date: &[u32; 5]) -> u64
     ensures { result ≡ number_of (date_fault (stamp_of_words date.now)) }
 {
-    let fault = calendar::date::date_fault(stamp(*date));
-    fault.number() as u64
+    number_of(date_fault(stamp(*date))) as u64
 }
 
 // What is wrong with the date of a comment, which may be undated: month and day both 0.
@@ -35,8 +38,7 @@ pub extern "C" fn jangqeruz_date_fault(date: &[u32; 5]) -> u64
 pub extern "C" fn jangqeruz_note_fault(note: &[u32; 5]) -> u64
     ensures { result ≡ number_of (note_fault (stamp_of_words note.now)) }
 {
-    let fault = calendar::date::note_fault(stamp(*note));
-    fault.number() as u64
+    number_of(note_fault(stamp(*note))) as u64
 }
 
 // Whether `a` is earlier than `b`, by year, then month, day, hour and minutes. Nothing is refused.
@@ -44,7 +46,7 @@ pub extern "C" fn jangqeruz_note_fault(note: &[u32; 5]) -> u64
 pub extern "C" fn jangqeruz_earlier(a: &[u32; 5], b: &[u32; 5]) -> bool
     ensures { result ≡ earlier (stamp_of_words a.now) (stamp_of_words b.now) }
 {
-    calendar::order::earlier(stamp(*a), stamp(*b))
+    earlier(stamp(*a), stamp(*b))
 }
 
 // Whether a comment falls in a window, its start counted in and its end counted out; an undated one falls in none. `falls` gets 1 or 0, or the refusal's detail.
@@ -57,7 +59,7 @@ pub extern "C" fn jangqeruz_falls_in(
 ) -> u64
     ensures { FallsTold (falls_in (stamp_of_words start.now) (stamp_of_words end.now) (stamp_of_words note.now)) falls.new result }
 {
-    let a = calendar::window::falls_in(stamp(*start), stamp(*end), stamp(*note));
-    *falls = [a.value()];
-    a.number() as u64
+    let told = falls_in(stamp(*start), stamp(*end), stamp(*note));
+    *falls = [falls_value(told)];
+    number_of(told) as u64
 }

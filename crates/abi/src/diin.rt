@@ -7,8 +7,12 @@ ghost use Rattle.meanings.specs.Property.{start_of};
 ghost use Rattle.meanings.specs.Diin.{given_text, source_of, info_order_of};
 
 use chunk::Cursor;
-use master_info::diin::Info;
+use master_info::diin::{Info, diin};
 use master_info::pick::ArtistTitle;
+use meanings::diin::{artist_title_source, given_text, info_order};
+use meanings::property::start;
+use meanings::text::options;
+use texts::pools::Pools;
 use tracks::order::ProgramOptions;
 
 // DIIN, its chunks in the order of these numbers. EMID and the texts of custom markers are bytes of `raw`, the other texts values of `pool`.
@@ -69,42 +73,32 @@ pub extern "C" fn jangqeruz_diin(
         out.new result }
 {
     let info = Info {
-        on: on,
-        empty_info: empty_info,
-        emid: meanings::diin::given_text(*emid),
-        custom_markers: custom_markers,
+        on,
+        empty_info,
+        emid: given_text(*emid),
+        custom_markers,
         program: ProgramOptions {
-            first: first,
-            end: end,
-            playtime: playtime,
-            source_track: source_track,
-            source_track_markers: source_track_markers,
-            clipped_program: clipped_program,
-            titles: titles,
+            first,
+            end,
+            playtime,
+            source_track,
+            source_track_markers,
+            clipped_program,
+            titles,
         },
-        start: meanings::property::start(start_given, start_frame),
-        text: meanings::text::options(rule_number, replacement, empty_text, text_pad_counted),
-        artist_title: artist_title,
-        artist_title_source: meanings::diin::artist_title_source(source_number),
+        start: start(start_given, start_frame),
+        text: options(rule_number, replacement, empty_text, text_pad_counted),
+        artist_title,
+        artist_title_source: artist_title_source(source_number),
         album: ArtistTitle {
-            artist: meanings::diin::given_text(*album_artist),
-            title: meanings::diin::given_text(*album_title),
+            artist: given_text(*album_artist),
+            title: given_text(*album_title),
         },
         track: ArtistTitle {
-            artist: meanings::diin::given_text(*track_artist),
-            title: meanings::diin::given_text(*track_title),
+            artist: given_text(*track_artist),
+            title: given_text(*track_title),
         },
     };
-    let c = Cursor::new();
-    let end = master_info::diin::diin(
-        c,
-        out,
-        pool,
-        raw,
-        tracks,
-        custom,
-        meanings::diin::info_order(*order),
-        info,
-    );
-    end.at
+    let lent = TODO_GIVEN;
+    diin(Cursor::new(), out, &lent, info_order(*order), info).at
 }

@@ -5,7 +5,8 @@ ghost use Rattle.prop.specs.Property.{property};
 ghost use Rattle.meanings.specs.Property.{sound_of, layout_of, start_of, property_order_of};
 
 use chunk::Cursor;
-use prop::property::Properties;
+use meanings::property::{layout, property_order, sound, start};
+use prop::property::{Properties, property};
 use prop_fields::layout::ChannelNumbers;
 
 // PROP, its chunks in the order of these numbers. The channel numbers are used if they are given.
@@ -30,7 +31,7 @@ pub extern "C" fn jangqeruz_property(
           sound = sound_of dst;
           layout = layout_of layout_number;
           channels = channels;
-          numbers = record { given = numbers_given; count = numbers_count; numbers = numbers.now };
+          numbers = cond numbers_given (Some (record { count = numbers_count; numbers = numbers.now })) None;
           start = start_of start_given start_frame;
           loudspeaker_configuration = loudspeaker_configuration;
           unspecified_loudspeaker_configuration = unspecified_loudspeaker_configuration;
@@ -39,20 +40,17 @@ pub extern "C" fn jangqeruz_property(
         out.new result }
 {
     let p = Properties {
-        sound: meanings::property::sound(dst),
-        layout: meanings::property::layout(layout_number),
-        channels: channels,
-        numbers: ChannelNumbers {
-            given: numbers_given,
+        sound: sound(dst),
+        layout: layout(layout_number),
+        channels,
+        numbers: numbers_given.then_some(ChannelNumbers {
             count: numbers_count,
             numbers: *numbers,
-        },
-        start: meanings::property::start(start_given, start_frame),
-        loudspeaker_configuration: loudspeaker_configuration,
-        unspecified_loudspeaker_configuration: unspecified_loudspeaker_configuration,
-        d1: d1,
+        }),
+        start: start(start_given, start_frame),
+        loudspeaker_configuration,
+        unspecified_loudspeaker_configuration,
+        d1,
     };
-    let c = Cursor::new();
-    let end = prop::property::property(c, out, meanings::property::property_order(*order), p);
-    end.at
+    property(Cursor::new(), out, property_order(*order), p).at
 }

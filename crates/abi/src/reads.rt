@@ -5,14 +5,18 @@ ghost use Rattle.file_query.specs.Query.{query_of};
 ghost use Rattle.file_read.specs.Read.{request_of};
 ghost use Rattle.abi.specs.Reads.{format_of, Queried, ReadAnswered};
 
+use file_query::query::query;
+use file_read::read::{Request, read};
+use meanings::property::sound;
+use read_answer::answer::{query_values, read_value};
 use read_rules::format::SoundFormat;
+use refusal::verdict::number_of;
 
 fn format(dst: bool, crc: bool, channels: u8, positions: u32) -> SoundFormat
     ensures { result ≡ format_of dst crc channels positions }
 {
-    let sound = meanings::property::sound(dst);
     SoundFormat {
-        sound,
+        sound: sound(dst),
         crc,
         channels,
         positions,
@@ -36,10 +40,10 @@ pub extern "C" fn jangqeruz_query(
 ) -> u64
     ensures { Queried (query_of (format_of dst crc channels positions) lengths.now header trailer offset room) range.new result }
 {
-    let form = format(dst, crc, channels, positions);
-    let a = file_query::query::query(form, lengths, header, trailer, offset, room);
-    *range = a.values();
-    a.number() as u64
+    let format = format(dst, crc, channels, positions);
+    let needed = query(format, lengths, header, trailer, offset, room);
+    *range = query_values(needed);
+    number_of(needed) as u64
 }
 
 // The file's bytes from its byte `offset` on, into `out`. `filled` gets how many, or the refusal's detail. Of the positions that the query answers are lent: the lengths of their DST
@@ -64,10 +68,17 @@ pub extern "C" fn jangqeruz_read(
         (request_of (format_of dst crc channels positions) lengths.now header.now trailer.now offset lent.now frames.now contents.now)
         out.old out.new filled.new result }
 {
-    let form = format(dst, crc, channels, positions);
-    let a = file_read::read::read(
-        form, lengths, header, trailer, offset, lent, frames, contents, out,
-    );
-    *filled = [a.value()];
-    a.number() as u64
+    let request = Request {
+        format: format(dst, crc, channels, positions),
+        lengths,
+        header,
+        trailer,
+        offset,
+        lent,
+        frames,
+        contents,
+    };
+    let answer = read(&request, out);
+    *filled = [read_value(answer)];
+    number_of(answer) as u64
 }

@@ -7,12 +7,15 @@ ghost use Rattle.words.specs.Border.{words_fault};
 ghost use Rattle.words.specs.Inputs.{inputs_of_words};
 ghost use Rattle.abi.specs.Verdict.{answer};
 
-use refusal::verdict::Verdict;
+use build_options::inputs::Lent;
+use refusal::verdict::{Verdict, detail_of, number_of};
+use texts::pools::Pools;
+use words::verdict::verdict;
 
 fn answer(v: Verdict) -> u64
     ensures { result ≡ answer v }
 {
-    v.number() as u64 * 0x1_0000_0000 + v.detail() % 0x1_0000_0000
+    number_of(v) as u64 * 0x1_0000_0000 + detail_of(v) % 0x1_0000_0000
 }
 
 // The number of the refusal, 0 for none, times 2^32, and the low 32 bits of its detail. The tracks, markers, comments and caller's chunks are rows of
@@ -31,8 +34,16 @@ pub extern "C" fn jangqeruz_verdict(
     ensures { result ≡ answer (or_else (words_fault words.now) (verdict (inputs_of_words words.now pool.now raw.now
         tracks.now markers.now comments.now callers.now lengths.now))) }
 {
-    let v = words::verdict::verdict(
-        words, pool, raw, tracks, markers, comments, callers, lengths,
-    );
-    answer(v)
+    let lent = Lent {
+        pools: Pools {
+            text: pool,
+            bytes: raw,
+        },
+        tracks,
+        markers,
+        comments,
+        callers,
+        lengths,
+    };
+    answer(verdict(words, &lent))
 }

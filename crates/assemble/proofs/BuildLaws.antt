@@ -19,7 +19,8 @@ use Rattle.file_tree.specs.File.{front_of, back_of, place, sound_length, form_si
 use Rattle.file_tree.proofs.FileLaws.{length_front, length_back, length-header}
 use Rattle.accepted_file.proofs.SizeLaws.{front_low, back_low, sound-low}
 use Rattle.build_answer.specs.Answer.{Answer}
-use Rattle.build_answer.specs.declared.answer.Answer.TheVariants as answer
+use Rattle.refusal.specs.declared.verdict.Refusal.{Refusal}
+use Rattle.refusal.specs.declared.verdict.Refusal.TheVariants.{HeaderRoom, TrailerRoom}
 use Rattle.header_trailer.specs.declared.measure.Lengths.{Lengths}
 use Rattle.assemble.specs.Build.{room_fault, build_verdict, Outcome}
 use Rattle.header_trailer.specs.Measure.{Measured}
@@ -73,18 +74,18 @@ sound-long x ok sized e = omega (arith, e, sound-low x ok sized)
 
 -- THE OUTCOMES
 module _ (x : Inputs) (sized : Ordered x) (h t : List ℕ) where
-  pub no_room : {n m k d : ℕ} {v : Verdict} → n ≡ length (header_of x) → m ≡ length (trailer_of x) → v ≡ room_faults n m (length h) (length t) → v ≡ Refused k d
-      → Outcome x (room_fault x h t) h h t t (answer.Refused k d)
-  no_room {k = k} {d = d} e f g told =
-      let fault : room_fault x h t ≡ Refused k d = rw (← e, ← f, ← g) told in record { orders = sized; answers = rw fault; header = rw fault; trailer = rw fault }
+  pub no_room : {n m : ℕ} {r : Refusal} {v : Verdict} → n ≡ length (header_of x) → m ≡ length (trailer_of x) → v ≡ room_faults n m (length h) (length t) → v ≡ Err r
+      → Outcome x (room_fault x h t) h h t t (Err r)
+  no_room {r = r} e f g told =
+      let fault : room_fault x h t ≡ Err r = rw (← e, ← f, ← g) told in record { orders = sized; answers = rw fault; header = rw fault; trailer = rw fault }
 
   pub built : {n m s : ℕ} {v : Verdict} {h' t' : List ℕ} → n ≡ length (header_of x) → m ≡ length (trailer_of x) → v ≡ room_faults n m (length h) (length t) → v ≡ Ok tt
-      → s ≡ sound_length x → h' ≡ overlay h 0 (header_of x) → t' ≡ overlay t 0 (trailer_of x) → Outcome x (room_fault x h t) h h' t t' (answer.Built n s m)
+      → s ≡ sound_length x → h' ≡ overlay h 0 (header_of x) → t' ≡ overlay t 0 (trailer_of x) → Outcome x (room_fault x h t) h h' t t' (Ok (record { header = n; sound = s; trailer = m }))
   unfolding room_faults
   built {n} {m} e f g k s p q =
       let none : room_fault x h t ≡ Ok tt = rw (← e, ← f, ← g) k in
-      let both = after (ltb (length h) (length (header_of x))) 40 (length (header_of x)) none in
-      let last = if-accepted (ltb (length t) (length (trailer_of x))) 41 (length (trailer_of x)) both.1 in
+      let both = after (ltb (length h) (length (header_of x))) (HeaderRoom (length (header_of x))) none in
+      let last = if-accepted (ltb (length t) (length (trailer_of x))) (TrailerRoom (length (trailer_of x))) both.1 in
       record {
         orders = sized;
         answers = rw (none, e, f, s);
@@ -92,7 +93,7 @@ module _ (x : Inputs) (sized : Ordered x) (h t : List ℕ) where
         trailer = rw none (q ∙ laid t (trailer_of x) (ltb-false (length t) (length (trailer_of x)) last));
       }
 
-  pub refused : {v : Verdict} {n d : ℕ} → v ≡ verdict x → v ≡ Refused n d → Outcome x (build_verdict x h t) h h t t (answer.Refused n d)
+  pub refused : {v : Verdict} {r : Refusal} → v ≡ verdict x → v ≡ Err r → Outcome x (build_verdict x h t) h h t t (Err r)
   refused e k = record { orders = sized; answers = rw (← e, k); header = rw (← e, k); trailer = rw (← e, k) }
 
   pub accepted : {v : Verdict} {h' t' : List ℕ} {r : Answer} → v ≡ verdict x → v ≡ Ok tt → Outcome x (room_fault x h t) h h' t t' r → Outcome x (build_verdict x h t) h h' t t' r

@@ -1,5 +1,5 @@
 // The query: which positions a read of a whole file needs.
-ghost use Rattle.std.specs.Prelude.{◌≡◌, ◌-◌};
+ghost use Rattle.std.specs.Prelude.{◌≡◌};
 ghost use Rattle.sound_reads.specs.Positions.{positions_for};
 ghost use Rattle.read_rules.specs.Format.{unit_sizes};
 ghost use Rattle.file_query.specs.Query.{query_of};
@@ -7,31 +7,15 @@ ghost use Rattle.file_query.specs.Query.{query_of};
 use prop_fields::compression::Sound;
 use read_answer::answer::QueryAnswer;
 use read_rules::format::SoundFormat;
-use refusal::verdict::Verdict;
 use sound_reads::place::Positions;
-
-// What is left of a, less b.
-fn less(a: u64, b: u64) -> u64
-    ensures { result ≡ a - b }
-{
-    if a < b {
-        return 0;
-    }
-    a - b
-}
 
 // The positions that so many bytes from a place of the sound on touch.
 fn sound_positions(format: SoundFormat, lengths: &[u32], from: u64, count: u64) -> Positions
     ensures { result ≡ positions_for (unit_sizes format lengths.now) from count }
 {
-    let sound = format.sound;
-    match sound {
-        Sound::Dsd => {
-            return dsd_reads::dsd_data::positions(format.channels, format.positions, from, count);
-        }
-        Sound::Dst => {
-            return dst_reads::dst_data::positions(format.crc, lengths, from, count);
-        }
+    match format.sound {
+        Sound::Dsd => dsd_reads::dsd_data::positions(format.channels, format.positions, from, count),
+        Sound::Dst => dst_reads::dst_data::positions(format.crc, lengths, from, count),
     }
 }
 
@@ -47,15 +31,8 @@ pub fn query(
 ) -> QueryAnswer
     ensures { result ≡ query_of format lengths.now header trailer offset room }
 {
-    let verdict = format.fault(lengths, header, trailer);
-    match verdict {
-        Verdict::Refused { number, detail } => {
-            return QueryAnswer::Refused { number, detail };
-        }
-        Verdict::Accepted => {
-            let from = less(offset, header);
-            let count = less(room, less(header, offset));
-            return QueryAnswer::Needed(sound_positions(format, lengths, from, count));
-        }
-    }
+    format.fault(lengths, header, trailer)?;
+    let from = offset.saturating_sub(header);
+    let count = room.saturating_sub(header.saturating_sub(offset));
+    Ok(sound_positions(format, lengths, from, count))
 }

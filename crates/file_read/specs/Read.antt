@@ -1,17 +1,16 @@
 -- THE OUTCOME OF A READ of a whole file (01: "Reading is over the whole file, header, sound and trailer joined"; "A read fills the smaller of the buffer and what
 -- remains, 0 at or past the end; each piece is written into the stretch of the caller's buffer that begins at its offset, and later bytes stay"; "everything is
 -- tested first"). Assumes nothing.
-use Rattle.std.specs.Prelude.{◌≡◌, not, List, ◌++◌, ℕ, ◌-◌, min, length}
-use Rattle.refusal.specs.Verdict.{refuse_if, or_else}
-use Rattle.refusal.specs.Verdict.{Verdict}
-use Rattle.std.specs.Prelude.{Ok, Err}
+use Rattle.std.specs.Prelude.{Ok, Err, ◌≡◌, not, List, ◌++◌, ℕ, ◌-◌, min, length}
+use Rattle.refusal.specs.Verdict.{Verdict, refuse_if, or_else}
+use Rattle.refusal.specs.declared.verdict.Refusal.TheVariants.{NotLent}
 use Rattle.window.specs.Window.{shown}
 use Rattle.sound_reads.specs.declared.place.Positions.{Positions}
 use Rattle.read_rules.specs.declared.format.SoundFormat.{SoundFormat}
 use Rattle.read_rules.specs.Fault.{format_fault}
 use Rattle.read_rules.specs.Needed.{needed}
-use Rattle.read_answer.specs.Answer.{ReadAnswer}
-use Rattle.read_answer.specs.Answer.{read_answer}
+use Rattle.read_answer.specs.Answer.{ReadAnswer, read_answer}
+use Rattle.file_read.specs.declared.read.Request as declared
 use Rattle.file_read.specs.Lent.{is_lent_for, sound_with}
 
 -- all that a read is given, but for its buffer
@@ -39,6 +38,10 @@ request_of format lengths header trailer offset lent frames contents = record {
   contents = contents;
 }
 
+-- the request of a caller, its slices as lists
+abbrev pub asked : declared.Request → Request
+asked r = request_of r.format r.lengths.now r.header.now r.trailer.now r.offset r.lent.now r.frames.now r.contents.now
+
 module _ (q : Request) (room : ℕ) where
   -- the positions that it needs to fill a buffer of `room` bytes
   abbrev pub needed_for : Positions
@@ -46,7 +49,7 @@ module _ (q : Request) (room : ℕ) where
 
   -- 43: "Read: the lent lengths or byte counts aren't those of the needed positions (plain content for DSD or CRC, DST bytes for DST, otherwise empty)"
   abbrev pub lent_fault : Verdict
-  lent_fault = refuse_if (not (is_lent_for q.format q.lengths needed_for q.lent q.frames q.contents)) 43 0
+  lent_fault = refuse_if (not (is_lent_for q.format q.lengths needed_for q.lent q.frames q.contents)) NotLent
 
   -- 42, then 43
   abbrev pub read_verdict : Verdict
@@ -59,7 +62,7 @@ module _ (q : Request) (room : ℕ) where
 -- the buffer in the end: the file's bytes from the offset on, as many as fit, and the rest as it was; all as it was, if the read is refused
 abbrev pub buffer_by : Verdict → List ℕ → ℕ → List ℕ → List ℕ
 buffer_by (Ok tt) file offset out = shown file (record { at = 0; skip = offset }) out
-buffer_by (Refused number detail) file offset out = out
+buffer_by (Err r) file offset out = out
 
 -- the outcome under a verdict
 pub record Reading (v : Verdict) (q : Request) (out last : List ℕ) (r : ReadAnswer) : Type 0 where
