@@ -5,7 +5,8 @@ use mathlib.Core.List.{List}
 use Prim.Native.Nat.{ℕ, ◌+◌, ◌-◌, min}
 use native.Mathlib.Omega.{arith}
 use lib.ListN.{length}
-use Rattle.sound_reads.specs.declared.lent.Fill.{Fill}
+use Rattle.std.specs.Prelude.{Option}
+use Rattle.window.specs.declared.window.Window.{Window}
 use Rattle.window.specs.Window.{shown, after}
 use Rattle.sound_reads.specs.Fill.{Filling}
 use Rattle.abi.specs.Sound.{Count}
@@ -15,7 +16,7 @@ from_zero : (a o : ℕ) → 0 + min a (o - 0) ≡ min a o
 from_zero a o = omega arith
 
 -- how many bytes a read from the buffer's front filled
-pub counted : (lent : Bool) (bytes : List ℕ) (skip : ℕ) (out last : List ℕ) (r : Fill) (n : ℕ)
+pub counted : (lent : Bool) (bytes : List ℕ) (skip : ℕ) (out last : List ℕ) (r : Option Window) (n : ℕ)
     → Filling lent bytes (record { at = 0; skip = skip }) out last r → n ≡ count_of r → Count lent bytes skip out last n
 unfolding shown after
 counted true bytes skip out last r n p e =

@@ -1,9 +1,9 @@
 -- What the exported build leaves: 01's number, the buffers, and the values of the answer. Assumes nothing.
 use Rattle.std.specs.Prelude.{◌≡◌, List, ℕ}
 use Rattle.chunk.specs.Append.{overlay}
-use Rattle.refusal.specs.declared.verdict.Verdict.{Verdict}
+use Rattle.refusal.specs.Verdict.{Verdict}
 use Rattle.build_options.specs.Inputs.{Inputs}
-use Rattle.build_answer.specs.declared.answer.Answer.{Answer}
+use Rattle.build_answer.specs.Answer.{Answer}
 use Rattle.build_answer.specs.Answer.{build_number, build_values}
 use Rattle.word_builds.specs.Build.{BuildsUnless}
 

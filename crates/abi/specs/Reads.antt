@@ -2,8 +2,8 @@
 use Rattle.std.specs.Prelude.{◌≡◌, Bool, List, [], ◌∷◌, ℕ}
 use Rattle.meanings.specs.Property.{sound_of}
 use Rattle.read_rules.specs.declared.format.SoundFormat.{SoundFormat}
-use Rattle.read_answer.specs.declared.answer.QueryAnswer.{QueryAnswer}
-use Rattle.read_answer.specs.declared.answer.ReadAnswer.{ReadAnswer}
+use Rattle.read_answer.specs.Answer.{QueryAnswer}
+use Rattle.read_answer.specs.Answer.{ReadAnswer}
 use Rattle.read_answer.specs.Answer.{query_number, query_values, read_number, read_value}
 use Rattle.file_read.specs.Read.{Request, Reads}
 

@@ -14,16 +14,15 @@ ghost use Rattle.abi.specs.Sound.{Count};
 ghost use Rattle.abi.specs.Steps.{count_of};
 
 use chunk::Cursor;
-use sound_reads::lent::Fill;
 use window::window::Window;
 
 // How many bytes a read filled.
-fn count(fill: Fill) -> usize
+fn count(fill: Option<Window>) -> usize
     ensures { result ≡ count_of fill }
 {
     match fill {
-        Fill::Filled(w) => return w.at,
-        Fill::NotLent => return usize::MAX,
+        Some(w) => w.at,
+        None => usize::MAX,
     }
 }
 

@@ -6,7 +6,7 @@ use native.Mathlib.Omega.{arith}
 use lib.ListN.{length}
 use Rattle.tree.specs.Tree.{bytes, join, each}
 use Rattle.dst.specs.Frame.{Frame}
-use Rattle.refusal.specs.declared.verdict.Verdict.TheVariants.{Accepted}
+use Rattle.std.specs.Prelude.{Ok}
 use Rattle.build_options.specs.Inputs.{Inputs}
 use Rattle.checks.specs.InputVerdict.{verdict}
 use Rattle.file_tree.specs.Parts.{parts}
@@ -16,7 +16,7 @@ use Rattle.file_tree.specs.File.{given, place, form_size, header_of, trailer_of,
 use Rattle.file_tree.proofs.FileLaws.{file-bytes, frm8_size}
 use Rattle.accepted_file.proofs.SizeLaws.{lengths-few, sound-once, sound-low}
 
-module _ (x : Inputs) (ok : verdict x ≡ Accepted) (sized : Ordered x) (fs : List Frame) (fits : Fits x.area.sound x.area x.lengths fs) where
+module _ (x : Inputs) (ok : verdict x ≡ Ok tt) (sized : Ordered x) (fs : List Frame) (fits : Fits x.area.sound x.area x.lengths fs) where
   pub accepted-file : header_of x ++ sound_bytes x.area.sound x.options.dst_crc fs ++ trailer_of x ≡ bytes (file_of x fs)
   accepted-file = file-bytes x fs fits (sound-once x ok sized) (omega (arith, lengths-few x ok sized)) (omega (arith, sound-low x ok sized))
 

@@ -18,7 +18,7 @@ use Rattle.dst.proofs.StartLaws.{start-add, start_all}
 use Rattle.dst_index.proofs.IndexLaws.{entry-leads}
 use Rattle.prop_fields.specs.declared.compression.Sound.{Sound}
 use Rattle.prop_fields.specs.declared.compression.Sound.TheVariants.{Dst}
-use Rattle.refusal.specs.declared.verdict.Verdict.TheVariants.{Accepted}
+use Rattle.std.specs.Prelude.{Ok}
 use Rattle.build_options.specs.Inputs.{Inputs}
 use Rattle.checks.specs.InputVerdict.{verdict}
 use Rattle.file_tree.specs.Parts.{parts, index_of}
@@ -36,7 +36,7 @@ shift_low : (o : DstIndexOffset) → shift_of o < 13
 shift_low ChunkHeader = omega arith
 shift_low FrameData = omega arith
 
-module _ (x : Inputs) (ok : verdict x ≡ Accepted) (sized : Ordered x) (dst : x.area.sound ≡ Dst) (fs : List Frame) (same : lengths fs ≡ x.lengths) where
+module _ (x : Inputs) (ok : verdict x ≡ Ok tt) (sized : Ordered x) (dst : x.area.sound ≡ Dst) (fs : List Frame) (same : lengths fs ≡ x.lengths) where
   fits : Fits x.area.sound x.area x.lengths fs
   fits = subst (λ (s : Sound). Fits s x.area x.lengths fs) (sym dst) same
 

@@ -36,7 +36,7 @@ use Rattle.master_info.specs.Diin.{info_chunks, has_diin, diin}
 use Rattle.refusal.specs.Below.{below}
 use Rattle.refusal.specs.Orders.{local_rank, times}
 use Rattle.refusal.proofs.OrderLaws.{local_rank_low, once-room}
-use Rattle.refusal.specs.declared.verdict.Verdict.TheVariants.{Accepted}
+use Rattle.std.specs.Prelude.{Ok}
 use Rattle.build_options.specs.Area.{area_positions, is_dst}
 use Rattle.build_options.specs.Inputs.{Inputs}
 use Rattle.rules.specs.Limits.{longest_text}
@@ -91,15 +91,15 @@ one_of : (n : ℕ) → n ≤ 1 → (n ≡ 0 → ⊥) → n ≡ 1
 one_of n most some = omega arith
 
 -- a local chunk is named at most once (37), and once if it is named
-named-few : (x : Inputs) → verdict x ≡ Accepted → (rank : ℕ) → rank < 5 → times (map local_rank (given x)) rank ≤ 1
+named-few : (x : Inputs) → verdict x ≡ Ok tt → (rank : ℕ) → rank < 5 → times (map local_rank (given x)) rank ≤ 1
 named-few x ok rank h = rw (rank_take (min x.local_count 5) x.local_order) (accepted.local-once x ok rank h)
 
-pub named-once : (x : Inputs) → verdict x ≡ Accepted → (rank : ℕ) → rank < 5
+pub named-once : (x : Inputs) → verdict x ≡ Ok tt → (rank : ℕ) → rank < 5
     → eqb (times (take (min x.local_count 5) (map local_rank x.local_order)) rank) 0 ≡ false → times (map local_rank (given x)) rank ≡ 1
 named-once x ok rank h named =
     one_of _ (named-few x ok rank h) (rw (rank_take (min x.local_count 5) x.local_order) (eqb-false _ 0 named))
 
-module _ (x : Inputs) (ok : verdict x ≡ Accepted) (sized : Ordered x) where
+module _ (x : Inputs) (ok : verdict x ≡ Ok tt) (sized : Ordered x) where
   pub positions_few : area_positions x.area ≤ 1_151_999
   positions_few = omega (arith, (accepted.range_inside x ok).1, accepted.playtime_bound x ok)
 

@@ -1,9 +1,9 @@
 -- The area and its range: 01's refusals 6 to 12. Assumes nothing.
 use Rattle.std.specs.Prelude.{ℕ, cond, not, ◌&&◌, ◌||◌, List, [], ◌∷◌, eqb, ltb, length}
 use Rattle.prop_fields.specs.Layout.{channel_count}
-use Rattle.refusal.specs.Verdict.{refuse_if, first_of}
+use Rattle.refusal.specs.Verdict.{Verdict, refuse_if, first_of}
 use Rattle.rows.specs.Lengths.{lengths_wrong}
-use Rattle.refusal.specs.declared.verdict.Verdict.{Verdict}
+use Rattle.refusal.specs.declared.verdict.Refusal.TheVariants as refused
 use Rattle.build_options.specs.declared.area.Area.{Area}
 use Rattle.build_options.specs.Area.{area_positions, is_dst}
 
@@ -20,25 +20,25 @@ lengths_wanted a = cond (is_dst a.sound) (area_positions a) 0
 unfoldable pub area_fault : Area → Verdict
 area_fault a =
     first_of
-    (refuse_if (ltb longest_playtime a.playtime) 6 0
-    ∷ refuse_if (ltb a.channels 1 || ltb 6 a.channels) 7 0
-    ∷ refuse_if (not (eqb (channel_count a.layout a.channels) a.channels)) 8 0
+    (refuse_if (ltb longest_playtime a.playtime) refused.Playtime
+    ∷ refuse_if (ltb a.channels 1 || ltb 6 a.channels) refused.Channels
+    ∷ refuse_if (not (eqb (channel_count a.layout a.channels) a.channels)) refused.ChannelsOfLayout
     ∷ [])
 
 -- 9: "DST: lengths don't number end − first, or first exceeds end; DSD: they don't number 0". 10: "A length isn't 1 to 65,536"
 unfoldable pub lengths_fault : Area → List ℕ → Verdict
 lengths_fault a lengths =
     first_of
-    (refuse_if ((is_dst a.sound && ltb a.end a.first) || not (eqb (length lengths) (lengths_wanted a))) 9 0
-    ∷ refuse_if (lengths_wrong lengths) 10 0
+    (refuse_if ((is_dst a.sound && ltb a.end a.first) || not (eqb (length lengths) (lengths_wanted a))) refused.LengthsCount
+    ∷ refuse_if (lengths_wrong lengths) refused.FrameLength
     ∷ [])
 
 -- 11: "First exceeds end, or end playtime". 12: "First equals end"
 unfoldable pub range_fault : Area → Verdict
 range_fault a =
     first_of
-    (refuse_if (ltb a.end a.first || ltb a.playtime a.end) 11 0
-    ∷ refuse_if (eqb a.first a.end) 12 0
+    (refuse_if (ltb a.end a.first || ltb a.playtime a.end) refused.Range
+    ∷ refuse_if (eqb a.first a.end) refused.EmptyRange
     ∷ [])
 
 -- 6 to 12

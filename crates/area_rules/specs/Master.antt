@@ -1,10 +1,10 @@
 -- The source track: 13 and 14. What an edited master asks: 15 to 23. Assumes nothing.
 use Rattle.std.specs.Prelude.{ℕ, ◌-◌, not, ◌||◌, List, [], ◌∷◌, eqb, ltb}
 use Rattle.tracks.specs.Track.{track_span, clip, has_frames, spans, exact}
-use Rattle.refusal.specs.Verdict.{refuse_if, first_of, when}
+use Rattle.refusal.specs.Verdict.{Verdict, refuse_if, first_of, when}
 use Rattle.rows.specs.Row.{count_of_rows}
 use Rattle.rows.specs.Durations.{short_tracks}
-use Rattle.refusal.specs.declared.verdict.Verdict.{Verdict}
+use Rattle.refusal.specs.declared.verdict.Refusal.TheVariants as refused
 use Rattle.rows.specs.declared.row.Row.TheVariants.{Track}
 use Rattle.build_options.specs.declared.area.Area.{Area}
 use Rattle.build_options.specs.declared.options.Options.{Options}
@@ -20,8 +20,8 @@ unfoldable pub source_fault : Area → List ℕ → ℕ → Verdict
 source_fault a tracks source =
     when (not (eqb source 0))
     (first_of
-    (refuse_if (ltb (track_count tracks) source) 13 0
-    ∷ refuse_if (not (has_frames (clip a.first a.end (track_span tracks (source - 1))))) 14 0
+    (refuse_if (ltb (track_count tracks) source) refused.NoSourceTrack
+    ∷ refuse_if (not (has_frames (clip a.first a.end (track_span tracks (source - 1))))) refused.SourceTrackOutside
     ∷ []))
 
 -- the most tracks of an edited master (02, job 10)
@@ -32,9 +32,9 @@ most_master_tracks = 255
 unfoldable pub master_area_fault : Area → List ℕ → Verdict
 master_area_fault a tracks =
     first_of
-    (refuse_if (not (eqb a.first 0) || not (eqb a.end a.playtime)) 15 0
-    ∷ refuse_if (unspecified a.layout) 16 0
-    ∷ refuse_if (eqb (track_count tracks) 0 || ltb most_master_tracks (track_count tracks)) 17 0
+    (refuse_if (not (eqb a.first 0) || not (eqb a.end a.playtime)) refused.MasterRange
+    ∷ refuse_if (unspecified a.layout) refused.MasterLayout
+    ∷ refuse_if (eqb (track_count tracks) 0 || ltb most_master_tracks (track_count tracks)) refused.MasterTracks
     ∷ [])
 
 -- the end of the last track, 0 if there is none
@@ -46,17 +46,17 @@ unfoldable pub master_tracks_fault : List ℕ → Verdict
 master_tracks_fault tracks =
     first_of
     (short_tracks tracks
-    ∷ refuse_if (not (exact (spans tracks))) 19 0
-    ∷ refuse_if (ltb longest_playtime (last_end tracks)) 20 0
+    ∷ refuse_if (not (exact (spans tracks))) refused.TrackSpans
+    ∷ refuse_if (ltb longest_playtime (last_end tracks)) refused.MasterEnd
     ∷ [])
 
 -- 21: "Custom markers". 22: "LSCO off". 23: "EMID off"
 unfoldable pub master_options_fault : Options → Verdict
 master_options_fault o =
     first_of
-    (refuse_if o.custom_markers 21 0
-    ∷ refuse_if (not o.loudspeaker_configuration) 22 0
-    ∷ refuse_if (not o.edited_master_id_written) 23 0
+    (refuse_if o.custom_markers refused.MasterMarkers
+    ∷ refuse_if (not o.loudspeaker_configuration) refused.MasterLsco
+    ∷ refuse_if (not o.edited_master_id_written) refused.MasterEmid
     ∷ [])
 
 -- 15 to 23

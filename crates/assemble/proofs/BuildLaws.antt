@@ -9,8 +9,8 @@ use lib.Dec.{ltb}
 use lib.ListN.{length, drop}
 use Rattle.chunk.specs.Append.{overlay, moved}
 use Rattle.chunk.proofs.AppendLaws.{overlay-room}
-use Rattle.refusal.specs.declared.verdict.Verdict.{Verdict}
-use Rattle.refusal.specs.declared.verdict.Verdict.TheVariants.{Accepted, Refused}
+use Rattle.refusal.specs.Verdict.{Verdict}
+use Rattle.std.specs.Prelude.{Ok, Err}
 use Rattle.refusal.proofs.VerdictLaws.{after, if-accepted}
 use Rattle.room_rules.specs.Room.{room_faults}
 use Rattle.build_options.specs.Inputs.{Inputs}
@@ -18,7 +18,7 @@ use Rattle.checks.specs.InputVerdict.{verdict}
 use Rattle.file_tree.specs.File.{front_of, back_of, place, sound_length, form_size, header_of, trailer_of, Ordered}
 use Rattle.file_tree.proofs.FileLaws.{length_front, length_back, length-header}
 use Rattle.accepted_file.proofs.SizeLaws.{front_low, back_low, sound-low}
-use Rattle.build_answer.specs.declared.answer.Answer.{Answer}
+use Rattle.build_answer.specs.Answer.{Answer}
 use Rattle.build_answer.specs.declared.answer.Answer.TheVariants as answer
 use Rattle.header_trailer.specs.declared.measure.Lengths.{Lengths}
 use Rattle.assemble.specs.Build.{room_fault, build_verdict, Outcome}
@@ -30,7 +30,7 @@ laid : (xs bs : List ℕ) → length bs ≤ length xs → overlay xs 0 bs ≡ bs
 laid xs bs h = overlay-room xs 0 bs (omega arith) ∙ rw zero-add
 
 -- WHAT WAS MEASURED of accepted inputs
-module _ (x : Inputs) (ok : verdict x ≡ Accepted) (m : Lengths) (known : Measured x m) where
+module _ (x : Inputs) (ok : verdict x ≡ Ok tt) (m : Lengths) (known : Measured x m) where
   front_long : m.front ≡ length (front_of x 0)
   front_long = omega (arith, known.front, front_low x ok known.orders 0)
 
@@ -68,7 +68,7 @@ module _ (x : Inputs) (ok : verdict x ≡ Accepted) (m : Lengths) (known : Measu
   trailer-filled f = f.trailer ∙ rw there
 
 -- the measured sound of accepted inputs
-pub sound-long : (x : Inputs) (ok : verdict x ≡ Accepted) (sized : Ordered x) {s : ℕ} → s ≡ min (sound_length x) (2 ^ 64 - 1) → s ≡ sound_length x
+pub sound-long : (x : Inputs) (ok : verdict x ≡ Ok tt) (sized : Ordered x) {s : ℕ} → s ≡ min (sound_length x) (2 ^ 64 - 1) → s ≡ sound_length x
 sound-long x ok sized e = omega (arith, e, sound-low x ok sized)
 
 -- THE OUTCOMES
@@ -78,11 +78,11 @@ module _ (x : Inputs) (sized : Ordered x) (h t : List ℕ) where
   no_room {k = k} {d = d} e f g told =
       let fault : room_fault x h t ≡ Refused k d = rw (← e, ← f, ← g) told in record { orders = sized; answers = rw fault; header = rw fault; trailer = rw fault }
 
-  pub built : {n m s : ℕ} {v : Verdict} {h' t' : List ℕ} → n ≡ length (header_of x) → m ≡ length (trailer_of x) → v ≡ room_faults n m (length h) (length t) → v ≡ Accepted
+  pub built : {n m s : ℕ} {v : Verdict} {h' t' : List ℕ} → n ≡ length (header_of x) → m ≡ length (trailer_of x) → v ≡ room_faults n m (length h) (length t) → v ≡ Ok tt
       → s ≡ sound_length x → h' ≡ overlay h 0 (header_of x) → t' ≡ overlay t 0 (trailer_of x) → Outcome x (room_fault x h t) h h' t t' (answer.Built n s m)
   unfolding room_faults
   built {n} {m} e f g k s p q =
-      let none : room_fault x h t ≡ Accepted = rw (← e, ← f, ← g) k in
+      let none : room_fault x h t ≡ Ok tt = rw (← e, ← f, ← g) k in
       let both = after (ltb (length h) (length (header_of x))) 40 (length (header_of x)) none in
       let last = if-accepted (ltb (length t) (length (trailer_of x))) 41 (length (trailer_of x)) both.1 in
       record {
@@ -95,5 +95,5 @@ module _ (x : Inputs) (sized : Ordered x) (h t : List ℕ) where
   pub refused : {v : Verdict} {n d : ℕ} → v ≡ verdict x → v ≡ Refused n d → Outcome x (build_verdict x h t) h h t t (answer.Refused n d)
   refused e k = record { orders = sized; answers = rw (← e, k); header = rw (← e, k); trailer = rw (← e, k) }
 
-  pub accepted : {v : Verdict} {h' t' : List ℕ} {r : Answer} → v ≡ verdict x → v ≡ Accepted → Outcome x (room_fault x h t) h h' t t' r → Outcome x (build_verdict x h t) h h' t t' r
+  pub accepted : {v : Verdict} {h' t' : List ℕ} {r : Answer} → v ≡ verdict x → v ≡ Ok tt → Outcome x (room_fault x h t) h h' t t' r → Outcome x (build_verdict x h t) h h' t t' r
   accepted e k o = rw (← e, k) o

@@ -3,12 +3,12 @@
 use Rattle.std.specs.Prelude.{◌≡◌, List, ◌++◌, ℕ, length, drop}
 use Rattle.refusal.specs.Verdict.{or_else}
 use Rattle.room_rules.specs.Room.{room_faults}
-use Rattle.refusal.specs.declared.verdict.Verdict.{Verdict}
-use Rattle.refusal.specs.declared.verdict.Verdict.TheVariants.{Accepted, Refused}
+use Rattle.refusal.specs.Verdict.{Verdict}
+use Rattle.std.specs.Prelude.{Ok, Err}
 use Rattle.build_options.specs.Inputs.{Inputs}
 use Rattle.checks.specs.InputVerdict.{verdict}
 use Rattle.file_tree.specs.File.{sound_length, header_of, trailer_of, Ordered}
-use Rattle.build_answer.specs.declared.answer.Answer.{Answer}
+use Rattle.build_answer.specs.Answer.{Answer}
 use Rattle.build_answer.specs.declared.answer.Answer.TheVariants as answer
 
 -- 40 and 41 of the buffers for header and trailer
@@ -21,12 +21,12 @@ build_verdict x header trailer = or_else (verdict x) (room_fault x header traile
 
 -- the answer: the refusal, or the lengths of header, sound and trailer
 abbrev pub answer_of : Inputs → Verdict → Answer
-answer_of x Accepted = answer.Built (length (header_of x)) (sound_length x) (length (trailer_of x))
+answer_of x (Ok tt) = answer.Built (length (header_of x)) (sound_length x) (length (trailer_of x))
 answer_of x (Refused number detail) = answer.Refused number detail
 
 -- a buffer in the end: what it is to hold, in front of the bytes that stay; as it was, if the build is refused
 abbrev pub buffer_of : Verdict → List ℕ → List ℕ → List ℕ
-buffer_of Accepted content buffer = content ++ drop (length content) buffer
+buffer_of (Ok tt) content buffer = content ++ drop (length content) buffer
 buffer_of (Refused number detail) content buffer = buffer
 
 -- the outcome under a verdict; the orders are arrays of five, four and five names

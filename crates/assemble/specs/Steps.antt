@@ -2,7 +2,7 @@
 -- Only contracts of private functions cite these; no promise of a public function does. Assumes nothing.
 use Rattle.std.specs.Prelude.{List, ℕ}
 use Rattle.build_options.specs.Inputs.{Inputs}
-use Rattle.build_answer.specs.declared.answer.Answer.{Answer}
+use Rattle.build_answer.specs.Answer.{Answer}
 use Rattle.assemble.specs.Build.{room_fault, Outcome}
 
 -- what is left to do of accepted inputs

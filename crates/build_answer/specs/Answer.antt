@@ -1,14 +1,18 @@
 -- What a build answers, by 01's numbers. Assumes nothing.
-use Rattle.std.specs.Prelude.{ℕ, List, [], ◌∷◌}
-use Rattle.build_answer.specs.declared.answer.Answer.{Answer}
-use Rattle.build_answer.specs.declared.answer.Answer.TheVariants.{Built, Refused}
+use Rattle.std.specs.Prelude.{ℕ, List, [], ◌∷◌, Result, Ok, Err}
+use Rattle.refusal.specs.Verdict.{number_of, detail}
+use Rattle.refusal.specs.declared.verdict.Refusal.{Refusal}
+use Rattle.build_answer.specs.declared.answer.Built.{Built}
+
+-- the lengths of header, sound and trailer, or the refusal
+abbrev pub Answer : Type 0
+Answer = Result Built Refusal
 
 -- 01's number of an answer; 0 stands for built
 abbrev pub build_number : Answer → ℕ
-build_number (Built header sound trailer) = 0
-build_number (Refused number detail) = number
+build_number r = number_of r
 
 -- the values that go with it: the lengths of header, sound and trailer, or the detail
 abbrev pub build_values : Answer → List ℕ
-build_values (Built header sound trailer) = header ∷ sound ∷ trailer ∷ []
-build_values (Refused number detail) = detail ∷ 0 ∷ 0 ∷ []
+build_values (Ok built) = built.header ∷ built.sound ∷ built.trailer ∷ []
+build_values (Err r) = detail r ∷ 0 ∷ 0 ∷ []

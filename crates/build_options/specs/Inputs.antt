@@ -6,6 +6,7 @@ use Rattle.chunk_names.specs.declared.LocalChunk.{LocalChunk}
 use Rattle.build_options.specs.declared.area.Area.{Area}
 use Rattle.build_options.specs.declared.options.Options.{Options}
 use Rattle.build_options.specs.declared.inputs.Inputs as declared
+use Rattle.build_options.specs.declared.inputs.Inputs as declared
 
 pub record Inputs : Type 0 where
   pub area : Area
@@ -25,38 +26,38 @@ pub record Inputs : Type 0 where
   -- of the DST frames
   pub lengths : List ℕ
 
--- all of it, one by one
-abbrev pub inputs_of : Area → Options → List PropertyChunk → List InfoChunk → List LocalChunk → ℕ → List ℕ → List ℕ → List ℕ → List ℕ → List ℕ → List ℕ → List ℕ → Inputs
-inputs_of area options property_order info_order local_order local_count pool raw tracks markers comments callers lengths = record {
-  area = area;
-  options = options;
-  property_order = property_order;
-  info_order = info_order;
-  local_order = local_order;
-  local_count = local_count;
-  pool = pool;
-  raw = raw;
-  tracks = tracks;
-  markers = markers;
-  comments = comments;
-  callers = callers;
-  lengths = lengths;
-}
-
--- what a build is told, the lent slices as lists
-abbrev pub told : declared.Inputs → Inputs
-told x = record {
+-- what a build is told and lent, the slices as lists
+abbrev pub inputs_of : declared.Inputs → Inputs
+inputs_of x = record {
   area = x.area;
   options = x.options;
   property_order = x.property_order;
   info_order = x.info_order;
   local_order = x.local_order;
   local_count = x.local_count;
-  pool = x.pool.now;
-  raw = x.raw.now;
-  tracks = x.tracks.now;
-  markers = x.markers.now;
-  comments = x.comments.now;
-  callers = x.callers.now;
-  lengths = x.lengths.now;
+  pool = x.lent.pools.text.now;
+  raw = x.lent.pools.bytes.now;
+  tracks = x.lent.tracks.now;
+  markers = x.lent.markers.now;
+  comments = x.lent.comments.now;
+  callers = x.lent.callers.now;
+  lengths = x.lent.lengths.now;
+}
+
+-- the same with other markers
+abbrev pub with_markers : List ℕ → Inputs → Inputs
+with_markers markers x = record {
+  area = x.area;
+  options = x.options;
+  property_order = x.property_order;
+  info_order = x.info_order;
+  local_order = x.local_order;
+  local_count = x.local_count;
+  pool = x.pool;
+  raw = x.raw;
+  tracks = x.tracks;
+  markers = markers;
+  comments = x.comments;
+  callers = x.callers;
+  lengths = x.lengths;
 }

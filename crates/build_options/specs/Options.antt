@@ -1,38 +1,32 @@
 -- The options, their defaults (01: "the Rust prevails on option defaults"), and what an edited master changes (01: "An edited master sets a missing start to 0, turns
 -- info on, takes artist and title unless switched off (the switch is on, off or unset; unset means off elsewhere), and has no source track"). Assumes nothing.
-use Rattle.std.specs.Prelude.{ℕ, Bool, true, false, cond, List, [], ◌∷◌}
+use Rattle.std.specs.Prelude.{ℕ, Bool, true, false, cond, List, [], ◌∷◌, Option, None, Some}
+use Rattle.std.specs.Option.{unwrap_or}
 use Rattle.texts.specs.declared.extent.Extent.{Extent}
 use Rattle.texts.specs.declared.text.TextRule.{TextRule}
 use Rattle.texts.specs.declared.text.TextRule.TheVariants.{Replace, Remove, D2}
 use Rattle.texts.specs.declared.text.TextOptions.{TextOptions}
-use Rattle.diin_texts.specs.declared.diin_text.Text.{Text}
-use Rattle.diin_texts.specs.declared.diin_text.Text.TheVariants as text
+use Rattle.diin_texts.specs.DiinText.{Text}
 use Rattle.dst_index.specs.declared.index.DstIndexOffset.TheVariants.{ChunkHeader}
-use Rattle.prop_fields.specs.Start.{start_frame}
-use Rattle.prop_fields.specs.declared.start.Start.{Start}
-use Rattle.prop_fields.specs.declared.start.Start.TheVariants.{Absent, Given}
+use Rattle.prop_fields.specs.Start.{Start, start_frame}
 use Rattle.tracks.specs.declared.order.ProgramOptions.{ProgramOptions}
 use Rattle.master_info.specs.declared.pick.ArtistTitle.{ArtistTitle}
 use Rattle.master_info.specs.declared.pick.ArtistTitleSource.TheVariants.{Album}
 use Rattle.master_info.specs.declared.diin.Info.{Info}
 use Rattle.build_options.specs.declared.area.Area.{Area}
-use Rattle.build_options.specs.declared.options.Switch.{Switch}
-use Rattle.build_options.specs.declared.options.Switch.TheVariants.{Unset, On, Off}
-use Rattle.build_options.specs.declared.options.Replacement.{Replacement}
-use Rattle.build_options.specs.declared.options.Replacement.TheVariants.{Nothing, Byte}
 use Rattle.build_options.specs.declared.options.Options.{Options}
 use Rattle.build_options.specs.declared.options.Settings.{Settings}
 
 abbrev no_texts : ArtistTitle
-no_texts = record { artist = text.Absent; title = text.Absent }
+no_texts = record { artist = None; title = None }
 
 -- the defaults of the Rust; no source track and no tags, where it asks the TOC
 unfoldable pub defaults : Options
 defaults = record {
-  channel_numbers = record { given = false; count = 0; numbers = 0 ∷ 0 ∷ 0 ∷ 0 ∷ 0 ∷ 0 ∷ [] };
+  channel_numbers = None;
   unspecified_loudspeaker_configuration = false;
   loudspeaker_configuration = true;
-  absolute_start = Absent;
+  absolute_start = None;
   dst_crc = false;
   dst_index = true;
   dst_index_offset = ChunkHeader;
@@ -46,11 +40,11 @@ defaults = record {
   clipped_program = false;
   marker_titles = false;
   text_pad_counted = false;
-  artist_title = Unset;
+  artist_title = None;
   artist_title_source = Album;
   album = no_texts;
   track = no_texts;
-  text_replacement = Byte 0x3F;
+  text_replacement = Some 0x3F;
   empty_text = false;
   empty_info = true;
   d1 = false;
@@ -58,14 +52,12 @@ defaults = record {
 }
 
 -- whether a switch is on; one that is unset stands as told
-abbrev pub is_on : Switch → Bool → Bool
-is_on Unset unset = unset
-is_on On unset = true
-is_on Off unset = false
+abbrev pub is_on : Option Bool → Bool → Bool
+is_on switch unset = unwrap_or switch unset
 
 -- a start that is missing becomes 0
 abbrev pub start_or_zero : Start → Start
-start_or_zero start = Given (start_frame start)
+start_or_zero start = Some (start_frame start)
 
 -- what holds in the end
 unfoldable pub effective : Options → Settings
@@ -80,11 +72,11 @@ effective o =
     })
 
 -- how values become text bytes; under D2 the replacement is idle
-abbrev pub replaced : Replacement → TextRule
-replaced Nothing = Remove
-replaced (Byte b) = Replace b
+abbrev pub replaced : Option ℕ → TextRule
+replaced None = Remove
+replaced (Some b) = Replace b
 
-abbrev pub text_rule : Bool → Replacement → TextRule
+abbrev pub text_rule : Bool → Option ℕ → TextRule
 text_rule d2 replacement = cond d2 D2 (replaced replacement)
 
 abbrev pub text_options : Options → TextOptions
@@ -108,7 +100,7 @@ program_options area o s = record {
 
 -- EMID's bytes, if it is written
 abbrev pub id_text : Bool → Extent → Text
-id_text written id = cond written (text.Given id) text.Absent
+id_text written id = cond written (Some id) None
 
 -- what DIIN tells
 abbrev pub info_of : Area → Options → Settings → Info
@@ -128,8 +120,8 @@ info_of area o s = record {
 
 -- the extent of a text; of one that is missing, an empty one
 abbrev pub text_extent : Text → Extent
-text_extent text.Absent = record { start = 0; length = 0 }
-text_extent (text.Given e) = e
+text_extent None = record { start = 0; length = 0 }
+text_extent (Some e) = e
 
 -- extents as rows of two words
 abbrev pub id_row : Extent → List ℕ

@@ -20,10 +20,7 @@ impl Area {
     pub fn positions(self) -> u32
         ensures { result ≡ area_positions self }
     {
-        if self.end < self.first {
-            return 0;
-        }
-        self.end - self.first
+        self.end.saturating_sub(self.first)
     }
 }
 
@@ -31,12 +28,8 @@ pub fn is_dst(sound: Sound) -> bool
     ensures { result ≡ is_dst sound }
 {
     match sound {
-        Sound::Dsd => {
-            return false;
-        }
-        Sound::Dst => {
-            return true;
-        }
+        Sound::Dsd => false,
+        Sound::Dst => true,
     }
 }
 
@@ -44,17 +37,7 @@ pub fn is_unspecified(layout: Layout) -> bool
     ensures { result ≡ unspecified layout }
 {
     match layout {
-        Layout::Stereo => {
-            return false;
-        }
-        Layout::ThreeTwo => {
-            return false;
-        }
-        Layout::FivePointOne => {
-            return false;
-        }
-        Layout::Unspecified => {
-            return true;
-        }
+        Layout::Stereo | Layout::ThreeTwo | Layout::FivePointOne => false,
+        Layout::Unspecified => true,
     }
 }

@@ -1,40 +1,23 @@
 // The options of a build, their defaults, and what an edited master changes of them.
 ghost use Rattle.std.specs.Prelude.{◌≡◌};
-ghost use Rattle.build_options.specs.Options.{id_text, text_extent, defaults, effective, start_or_zero, is_on, text_rule, text_options, info_of, program_options, tag_rows, id_row};
+ghost use Rattle.build_options.specs.Options.{text_extent, defaults, effective, text_rule, text_options, info_of, program_options, tag_rows, id_row};
 
 use crate::area::Area;
-use diin_texts::diin_text::Text;
 use dst_index::index::DstIndexOffset;
 use master_info::diin::Info;
 use master_info::pick::{ArtistTitle, ArtistTitleSource};
 use prop_fields::layout::ChannelNumbers;
-use prop_fields::start::Start;
 use texts::extent::Extent;
 use texts::text::{TextOptions, TextRule};
 use tracks::order::ProgramOptions;
 
-// A switch that may be left alone.
-#[derive(Clone, Copy)]
-pub enum Switch {
-    Unset,
-    On,
-    Off,
-}
-
-// What stands for a value that is no text byte.
-#[derive(Clone, Copy)]
-pub enum Replacement {
-    Nothing, // it is removed
-    Byte(u8),
-}
-
 // What a caller chooses, beside the orders of chunks. Texts are extents of the lent pools.
 #[derive(Clone, Copy)]
 pub struct Options {
-    pub channel_numbers: ChannelNumbers, // of an unspecified layout
+    pub channel_numbers: Option<ChannelNumbers>, // of an unspecified layout, by default 0 upward
     pub unspecified_loudspeaker_configuration: bool, // whether such a layout has LSCO
     pub loudspeaker_configuration: bool, // whether a defined one has
-    pub absolute_start: Start,
+    pub absolute_start: Option<u32>, // in frames
     pub dst_crc: bool, // whether each DSTF is followed by DSTC
     pub dst_index: bool, // whether a DST file has DSTI
     pub dst_index_offset: DstIndexOffset,
@@ -48,11 +31,11 @@ pub struct Options {
     pub clipped_program: bool, // whether a range that is not the play range does
     pub marker_titles: bool, // whether a track's start has its title
     pub text_pad_counted: bool, // whether the pad after a text is inside the chunk's size
-    pub artist_title: Switch, // whether DIIN has artist and title
+    pub artist_title: Option<bool>, // whether DIIN has artist and title, by default if it is an edited master
     pub artist_title_source: ArtistTitleSource,
     pub album: ArtistTitle,
     pub track: ArtistTitle, // of the source track
-    pub text_replacement: Replacement,
+    pub text_replacement: Option<u8>, // what stands for a value that is no text byte; without it such a value is removed
     pub empty_text: bool, // whether a text without bytes is written
     pub empty_info: bool, // whether a DIIN without chunks is
     pub d1: bool, // departure D1: the pad counted inside CMPR
@@ -62,24 +45,30 @@ pub struct Options {
 // What holds in the end of the options that an edited master changes.
 #[derive(Clone, Copy)]
 pub struct Settings {
-    pub start: Start,
+    pub start: Option<u32>,
     pub info: bool,
     pub artist_title: bool,
     pub source_track: u16,
 }
 
+const NO_TEXT: Extent = Extent {
+    start: 0,
+    length: 0,
+};
+
+const NO_TEXTS: ArtistTitle = ArtistTitle {
+    artist: None,
+    title: None,
+};
+
 pub fn defaults() -> Options
     ensures { result ≡ defaults }
 {
     Options {
-        channel_numbers: ChannelNumbers {
-            given: false,
-            count: 0,
-            numbers: [0; 6],
-        },
+        channel_numbers: None,
         unspecified_loudspeaker_configuration: false,
         loudspeaker_configuration: true,
-        absolute_start: Start::Absent,
+        absolute_start: None,
         dst_crc: false,
         dst_index: true,
         dst_index_offset: DstIndexOffset::ChunkHeader,
@@ -87,26 +76,17 @@ pub fn defaults() -> Options
         edited_master: false,
         edited_master_info: false,
         edited_master_id_written: true,
-        edited_master_id: Extent {
-            start: 0,
-            length: 0,
-        },
+        edited_master_id: NO_TEXT,
         custom_markers: false,
         source_track_markers: false,
         clipped_program: false,
         marker_titles: false,
         text_pad_counted: false,
-        artist_title: Switch::Unset,
+        artist_title: None,
         artist_title_source: ArtistTitleSource::Album,
-        album: ArtistTitle {
-            artist: Text::Absent,
-            title: Text::Absent,
-        },
-        track: ArtistTitle {
-            artist: Text::Absent,
-            title: Text::Absent,
-        },
-        text_replacement: Replacement::Byte(0x3F),
+        album: NO_TEXTS,
+        track: NO_TEXTS,
+        text_replacement: Some(b'?'),
         empty_text: false,
         empty_info: true,
         d1: false,
@@ -114,76 +94,44 @@ pub fn defaults() -> Options
     }
 }
 
-// Whether a switch is on; one that is unset stands as told.
-fn is_on(switch: Switch, unset: bool) -> bool
-    ensures { result ≡ is_on switch unset }
-{
-    match switch {
-        Switch::Unset => {
-            return unset;
-        }
-        Switch::On => {
-            return true;
-        }
-        Switch::Off => {
-            return false;
-        }
-    }
-}
-
-// A start that is missing becomes 0.
-fn start_of(start: Start) -> Start
-    ensures { result ≡ start_or_zero start }
-{
-    Start::Given(start.frame())
-}
-
 // What an edited master changes: a missing start is 0, info is on, artist and title are there unless switched off, and there is no source track.
 pub fn effective(o: Options) -> Settings
     ensures { result ≡ effective o }
 {
-    let start = o.absolute_start;
-    let switch = o.artist_title;
-    let artist_title = is_on(switch, o.edited_master);
+    let artist_title = o.artist_title.unwrap_or(o.edited_master);
     if o.edited_master {
-        return Settings {
-            start: start_of(start),
+        Settings {
+            start: Some(o.absolute_start.unwrap_or(0)),
             info: true,
-            artist_title: artist_title,
+            artist_title,
             source_track: 0,
-        };
-    }
-    Settings {
-        start: start,
-        info: o.edited_master_info,
-        artist_title: artist_title,
-        source_track: o.source_track,
+        }
+    } else {
+        Settings {
+            start: o.absolute_start,
+            info: o.edited_master_info,
+            artist_title,
+            source_track: o.source_track,
+        }
     }
 }
 
 // How values become text bytes. Under D2 the replacement is idle.
-fn rule_of(d2: bool, replacement: Replacement) -> TextRule
+fn rule_of(d2: bool, replacement: Option<u8>) -> TextRule
     ensures { result ≡ text_rule d2 replacement }
 {
-    if d2 {
-        return TextRule::D2;
-    }
     match replacement {
-        Replacement::Nothing => {
-            return TextRule::Remove;
-        }
-        Replacement::Byte(b) => {
-            return TextRule::Replace(b);
-        }
+        _ if d2 => TextRule::D2,
+        Some(byte) => TextRule::Replace(byte),
+        None => TextRule::Remove,
     }
 }
 
 pub fn text_options(o: Options) -> TextOptions
     ensures { result ≡ text_options o }
 {
-    let replacement = o.text_replacement;
     TextOptions {
-        rule: rule_of(o.d2, replacement),
+        rule: rule_of(o.d2, o.text_replacement),
         empty_text: o.empty_text,
         text_pad_counted: o.text_pad_counted,
     }
@@ -208,68 +156,36 @@ fn program_options(area: Area, o: Options, s: Settings) -> ProgramOptions
 pub fn info_of(area: Area, o: Options, s: Settings) -> Info
     ensures { result ≡ info_of area o s }
 {
-    let id = o.edited_master_id;
-    let emid = id_text(o.edited_master_id_written, id);
-    let start = s.start;
-    let source = o.artist_title_source;
-    let album = o.album;
-    let track = o.track;
-    let program = program_options(area, o, s);
-    let text = text_options(o);
     Info {
         on: s.info,
         empty_info: o.empty_info,
-        emid: emid,
+        emid: o.edited_master_id_written.then_some(o.edited_master_id),
         custom_markers: o.custom_markers,
-        program: program,
-        start: start,
-        text: text,
+        program: program_options(area, o, s),
+        start: s.start,
+        text: text_options(o),
         artist_title: s.artist_title,
-        artist_title_source: source,
-        album: album,
-        track: track,
+        artist_title_source: o.artist_title_source,
+        album: o.album,
+        track: o.track,
     }
-}
-
-// EMID's bytes, if it is written.
-fn id_text(written: bool, id: Extent) -> Text
-    ensures { result ≡ id_text written id }
-{
-    if written {
-        return Text::Given(id);
-    }
-    Text::Absent
 }
 
 // The extent of a text; of one that is missing, an empty one.
-fn extent_of(text: Text) -> Extent
+fn extent_of(text: Option<Extent>) -> Extent
     ensures { result ≡ text_extent text }
 {
-    match text {
-        Text::Absent => {
-            return Extent {
-                start: 0,
-                length: 0,
-            };
-        }
-        Text::Given(e) => {
-            return e;
-        }
-    }
+    text.unwrap_or(NO_TEXT)
 }
 
 // The extents of the artists and titles, as rows.
 pub fn tag_rows(album: ArtistTitle, track: ArtistTitle) -> [u32; 8]
     ensures { result ≡ tag_rows album track }
 {
-    let a = album.artist;
-    let b = album.title;
-    let c = track.artist;
-    let d = track.title;
-    let a = extent_of(a);
-    let b = extent_of(b);
-    let c = extent_of(c);
-    let d = extent_of(d);
+    let a = extent_of(album.artist);
+    let b = extent_of(album.title);
+    let c = extent_of(track.artist);
+    let d = extent_of(track.title);
     [
         a.start, a.length, b.start, b.length, c.start, c.length, d.start, d.length,
     ]

@@ -22,8 +22,8 @@ use Rattle.rows.specs.Row.{count_of_rows}
 use Rattle.rows.specs.Lengths.{length_wrong, lengths_wrong}
 use Rattle.faults.specs.Caller.{is_no_name, name_fault, caller_name, caller_faults}
 use Rattle.comment_faults.specs.Comments.{comment_faults}
-use Rattle.refusal.specs.declared.verdict.Verdict.{Verdict}
-use Rattle.refusal.specs.declared.verdict.Verdict.TheVariants.{Accepted}
+use Rattle.refusal.specs.Verdict.{Verdict}
+use Rattle.std.specs.Prelude.{Ok}
 use Rattle.rows.specs.declared.row.Row.TheVariants.{Text, Caller, Track, Marker, Comment}
 use Rattle.refusal.proofs.VerdictLaws.{or-accepted, after, if-accepted, neither, inside, none_so, none-refused}
 use Rattle.row_extents.proofs.RowFaultLaws.{RowsFit, rows_fit, not-not}
@@ -73,7 +73,7 @@ once ranks names e rank h = not-not (none_so (λ r. not (eqb (times ranks r) 1))
     go true e = e
     go false e = refl
 
-module _ (x : Inputs) (ok : verdict x ≡ Accepted) where
+module _ (x : Inputs) (ok : verdict x ≡ Ok tt) where
   -- the groups of the verdict
   abbrev given : Verdict
   given = given_faults x.options x.pool x.raw x.tracks x.markers x.comments x.callers
@@ -91,24 +91,24 @@ module _ (x : Inputs) (ok : verdict x ≡ Accepted) where
   chunks =
       chunk_faults x.area x.options (effective x.options) x.info_order x.local_order x.local_count x.pool x.raw x.tracks x.markers x.comments
 
-  given-ok : given ≡ Accepted
+  given-ok : given ≡ Ok tt
   unfolding verdict
   given-ok = (or-accepted given _ ok).0
 
-  after-given : or_else area (or_else tracks (or_else property chunks)) ≡ Accepted
+  after-given : or_else area (or_else tracks (or_else property chunks)) ≡ Ok tt
   unfolding verdict
   after-given = (or-accepted given _ ok).1
 
-  area-ok : area ≡ Accepted
+  area-ok : area ≡ Ok tt
   area-ok = (or-accepted area _ after-given).0
 
-  after-tracks : or_else property chunks ≡ Accepted
+  after-tracks : or_else property chunks ≡ Ok tt
   after-tracks = (or-accepted tracks _ (or-accepted area _ after-given).1).1
 
-  property-ok : property ≡ Accepted
+  property-ok : property ≡ Ok tt
   property-ok = (or-accepted property chunks after-tracks).0
 
-  chunks-ok : chunks ≡ Accepted
+  chunks-ok : chunks ≡ Ok tt
   chunks-ok = (or-accepted property chunks after-tracks).1
 
   abbrev info : Info
@@ -126,15 +126,15 @@ module _ (x : Inputs) (ok : verdict x ≡ Accepted) where
   turned = is_dst x.area.sound && ltb x.area.end x.area.first
 
   -- the parts of 6 to 12
-  area-part : area_fault x.area ≡ Accepted
+  area-part : area_fault x.area ≡ Ok tt
   unfolding area_faults
   area-part = (or-accepted (area_fault x.area) _ area-ok).0
 
-  lengths-part : lengths_fault x.area x.lengths ≡ Accepted
+  lengths-part : lengths_fault x.area x.lengths ≡ Ok tt
   unfolding area_faults
   lengths-part = (or-accepted (lengths_fault x.area x.lengths) _ (or-accepted (area_fault x.area) _ area-ok).1).0
 
-  range-part : range_fault x.area ≡ Accepted
+  range-part : range_fault x.area ≡ Ok tt
   unfolding area_faults
   range-part = (or-accepted (lengths_fault x.area x.lengths) _ (or-accepted (area_fault x.area) _ area-ok).1).1
 
@@ -271,7 +271,7 @@ module _ (x : Inputs) (ok : verdict x ≡ Accepted) where
       if-accepted _ 5 0 (after (is_no_name (caller_name x.callers k)) 4 0 one).1
 
   -- 28 and 29
-  property_tests : (not (each_once (map property_rank x.property_order) 5) ≡ false) × (start_fault x.area (effective x.options).start ≡ Accepted)
+  property_tests : (not (each_once (map property_rank x.property_order) 5) ≡ false) × (start_fault x.area (effective x.options).start ≡ Ok tt)
   unfolding property_faults
   property_tests =
       let rest = (after (replacement_wrong x.options.text_replacement) 24 0 property-ok).1 in
@@ -285,12 +285,12 @@ module _ (x : Inputs) (ok : verdict x ≡ Accepted) where
   start-inside given = ltb-false last_frame_of_day _ (wanted given (if-accepted _ 29 0 property_tests.1))
 
   -- the parts of 30 to 39
-  info-part : info_faults x.area info x.info_order x.raw x.markers ≡ Accepted
+  info-part : info_faults x.area info x.info_order x.raw x.markers ≡ Ok tt
   unfolding chunk_faults
   info-part = (or-accepted (info_faults x.area info x.info_order x.raw x.markers) _ chunks-ok).0
 
-  comments-local : (comment_faults x.comments x.pool (text_options x.options) x.area.channels ≡ Accepted)
-      × (local_faults x.pool x.raw x.tracks x.markers x.comments x.info_order info has_index x.local_order x.local_count ≡ Accepted)
+  comments-local : (comment_faults x.comments x.pool (text_options x.options) x.area.channels ≡ Ok tt)
+      × (local_faults x.pool x.raw x.tracks x.markers x.comments x.info_order info has_index x.local_order x.local_count ≡ Ok tt)
   unfolding chunk_faults
   comments-local =
       or-accepted (comment_faults x.comments x.pool (text_options x.options) x.area.channels) _

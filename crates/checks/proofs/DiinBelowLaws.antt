@@ -11,8 +11,8 @@ use Rattle.tree.specs.Tree.{bytes}
 use Rattle.chunk.specs.Rows.{rows}
 use Rattle.chunk_names.specs.declared.InfoChunk.{InfoChunk}
 use Rattle.chunk_names.specs.declared.InfoChunk.TheVariants.{EditedMasterId, Markers, Artist, Title}
-use Rattle.diin_texts.specs.declared.diin_text.Text.{Text}
-use Rattle.diin_texts.specs.declared.diin_text.Text.TheVariants.{Absent, Given}
+use Rattle.diin_texts.specs.DiinText.{Text}
+use Rattle.std.specs.Prelude.{None, Some}
 use Rattle.chunk.proofs.RowsLaws.{length-rows, length_mapped}
 use Rattle.tree.proofs.TreeLaws.{bytes-each}
 use Rattle.tracks.specs.Track.{span_of, spans}
@@ -26,7 +26,7 @@ use Rattle.master_info.proofs.DiinSizeLaws.{ShortGiven, Limited, info_most, info
 use Rattle.refusal.specs.Below.{below}
 use Rattle.refusal.specs.Orders.{info_rank}
 use Rattle.refusal.proofs.OrderLaws.{info_rank_low, once-room}
-use Rattle.refusal.specs.declared.verdict.Verdict.TheVariants.{Accepted}
+use Rattle.std.specs.Prelude.{Ok}
 use Rattle.rows.specs.declared.row.Row.TheVariants as row
 use Rattle.row_extents.proofs.RowFaultLaws.{RowsFit}
 use Rattle.texts.specs.declared.extent.Extent.{Extent}
@@ -37,8 +37,8 @@ use Rattle.checks.specs.InputVerdict.{verdict}
 use Rattle.checks.proofs.AcceptedLaws.{tags_fit, emid-fits, tracks_fit, markers_fit, info-once}
 
 given-short : (t : Text) → (text_extent t).length ≤ longest_text → ShortGiven longest_text t
-given-short Absent h = tt
-given-short (Given e) h = h
+given-short None h = tt
+given-short (Some e) h = h
 
 id-short : (written : Bool) (e : Extent) → e.length ≤ longest_text → ShortGiven longest_text (id_text written e)
 id-short true e h = h
@@ -71,7 +71,7 @@ by_number Markers = refl
 by_number Artist = refl
 by_number Title = refl
 
-module _ (x : Inputs) (ok : verdict x ≡ Accepted) where
+module _ (x : Inputs) (ok : verdict x ≡ Ok tt) where
   abbrev info : Info
   info = info_of x.area x.options (effective x.options)
 

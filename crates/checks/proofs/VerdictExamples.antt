@@ -6,13 +6,13 @@ use Rattle.chunk_names.specs.Name.{property_order, info_order, local_order}
 use Rattle.prop_fields.specs.declared.compression.Sound.{Sound}
 use Rattle.prop_fields.specs.declared.compression.Sound.TheVariants.{Dsd, Dst}
 use Rattle.prop_fields.specs.declared.layout.Layout.TheVariants.{Stereo, Unspecified}
-use Rattle.prop_fields.specs.declared.start.Start.TheVariants.{Given}
+use Rattle.std.specs.Prelude.{Some}
 use Rattle.prop_fields.specs.Layout.{channel_count}
 use Rattle.prop_fields.specs.Start.{is_given, start_frame}
 use Rattle.refusal.specs.Below.{below}
 use Rattle.refusal.specs.Orders.{times, each_once}
 use Rattle.channel_rules.specs.ChannelNumbers.{number_faults}
-use Rattle.refusal.specs.declared.verdict.Verdict.TheVariants.{Accepted, Refused}
+use Rattle.std.specs.Prelude.{Ok, Err}
 use Rattle.rows.specs.Lengths.{lengths_wrong}
 use Rattle.build_options.specs.declared.area.Area.{Area}
 use Rattle.texts.specs.Extent.{part}
@@ -35,15 +35,15 @@ use Rattle.rules.specs.Property.{numbers_fault, start_fault, property_faults}
 abbrev stereo : Sound → Area
 stereo sound = record { sound = sound; playtime = 1; channels = 2; layout = Stereo; first = 0; end = 1 }
 
-start-passes : start_fault (stereo Dsd) (Given 6_479_998) ≡ Accepted
+start-passes : start_fault (stereo Dsd) (Some 6_479_998) ≡ Ok tt
 unfolding start_fault is_given start_frame
 start-passes = refl
 
-start-is-29 : start_fault (stereo Dsd) (Given 6_479_999) ≡ Refused 29 0
+start-is-29 : start_fault (stereo Dsd) (Some 6_479_999) ≡ Refused 29 0
 unfolding start_fault is_given start_frame
 start-is-29 = refl
 
-length-passes : area_faults (stereo Dst) (65_536 ∷ []) ≡ Accepted
+length-passes : area_faults (stereo Dst) (65_536 ∷ []) ≡ Ok tt
 unfolding area_faults area_fault lengths_fault range_fault lengths_wrong below channel_count
 length-passes = refl
 
@@ -81,6 +81,6 @@ plain = record {
   lengths = [];
 }
 
-plain-accepted : verdict plain ≡ Accepted
+plain-accepted : verdict plain ≡ Ok tt
 unfolding verdict given_faults limit_faults any_too_large any_outside any_no_scalar too_large outside_pool no_scalars has_no_scalar part defaults caller_faults area_faults area_fault lengths_fault lengths_wrong range_fault below channel_count track_faults source_fault edited_master_fault effective property_faults numbers_fault start_fault is_given start_frame printable times each_once chunk_faults info_faults comment_faults local_faults lacks_any
 plain-accepted = refl

@@ -2,10 +2,9 @@
 use Rattle.std.specs.Prelude.{ℕ, ◌&&◌, List, [], ◌∷◌}
 use Rattle.chunk_names.specs.declared.InfoChunk.{InfoChunk}
 use Rattle.chunk_names.specs.declared.LocalChunk.{LocalChunk}
-use Rattle.refusal.specs.Verdict.{first_of}
+use Rattle.refusal.specs.Verdict.{Verdict, first_of}
 use Rattle.faults.specs.Caller.{caller_faults}
 use Rattle.comment_faults.specs.Comments.{comment_faults}
-use Rattle.refusal.specs.declared.verdict.Verdict.{Verdict}
 use Rattle.build_options.specs.declared.area.Area.{Area}
 use Rattle.build_options.specs.declared.options.Options.{Options}
 use Rattle.build_options.specs.declared.options.Settings.{Settings}

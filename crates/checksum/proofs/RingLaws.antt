@@ -1,20 +1,24 @@
--- The next 8 bytes as a word, a unit cut, and the ring after a unit more.
+-- Words of 8 bytes, a unit cut, and the ring after a unit more.
 -- Assumes nothing.
 use mathlib.Core.Path.{◌≡◌, refl, sym, ap, ap₂, ◌∙◌, subst}
-use mathlib.Core.List.{List}
+use mathlib.Core.List.{List, [], ◌∷◌, ◌++◌, append-nil, append_assoc}
 use mathlib.Core.Logic.{◌≢◌}
-use Prim.Native.Nat.{ℕ, zero, suc, ◌+◌, ◌*◌, ◌/◌, ◌%◌, ◌^◌, ◌≤◌, ◌<◌}
-use native.Mathlib.Nat.{add-zero, add_comm, suc-add, zero-add, mul_comm, mul-suc, div-one, mod-lt, pow-suc}
+use Prim.Native.Nat.{ℕ, zero, suc, ◌+◌, ◌*◌, ◌/◌, ◌%◌, ◌^◌, ◌<◌}
+use native.Mathlib.Nat.{add-zero, add_comm, suc-add, zero-add, zero-mul, suc-mul, mul_comm, mul-suc, div-one, mod-lt, pow-suc}
 use native.Mathlib.Numerals.{add-one}
 use native.Mathlib.Omega.{arith}
 use lib.Arith.{digits_div, digits_mod}
 use lib.Dec.{lit<}
 use lib.Pow.{pow-add, field, mod-mod-pow, shr-shr}
-use lib.ListN.{length, drop, get_or, set, replicate, length-set, get_or-replicate}
-use lib.Seq.{drop-cons, get_or-set_same, get_or-set_other}
+use Rattle.std.specs.Int.{from_le_bytes, w64}
+use Rattle.std.specs.List.{concat}
+use Rattle.std.specs.Simd.{first_chunks}
+use Rattle.std.proofs.lemmas.List.Folds.{concat-append}
+use lib.ListN.{length, take, drop, drop_of_length-le, take-append-drop, get_or, set, replicate, length-set, get_or-replicate}
+use lib.Seq.{drop-cons, take-suc, drop-drop, get_or-set_same, get_or-set_other}
 use lib.Bits.{bit_xor}
-use Rattle.checksum.specs.Crc.{bit, bits, byte_of, bytes_of}
-use Rattle.checksum.specs.Steps.{feed, after_units, units_from, ring_of, Pushed}
+use Rattle.checksum.specs.Crc.{bit, bits, byte_of, bytes_of, crc_of}
+use Rattle.checksum.specs.Steps.{feed, after_units, units_from, ring_of, Next, Pushed}
 use Rattle.checksum.proofs.FoldLaws.{Folds, folds, leave_out, after_ext, after_none}
 
 -- ---- bytes
@@ -24,32 +28,57 @@ pub step : (s : List ℕ) (i r : ℕ) → i < length s → bytes_of (byte_of r (
 unfolding bytes_of
 step s i r h = rw (add-one, drop-cons s i 0)
 
--- the n bytes from i on, as a number
-unfoldable pub low : List ℕ → ℕ → ℕ → ℕ
-low s i zero = 0
-low s i (suc n) = low s (i + 1) n * 256 + get_or s i 0
+bytes-append : (r : ℕ) (a b : List ℕ) → bytes_of r (a ++ b) ≡ bytes_of (bytes_of r a) b
+unfolding bytes_of
+bytes-append r [] b = refl
+bytes-append r (x ∷ a) b = bytes-append (byte_of r x) a b
 
-pub low-none : (s : List ℕ) (i : ℕ) → 0 ≡ low s i 0
-unfolding low
-low-none s i = refl
+-- bytes as a number, the first lowest
+abbrev low : List ℕ → ℕ
+low [] = 0
+low (b ∷ bs) = low bs * 256 + b
 
--- a byte more, below the others
-pub low-next : (s : List ℕ) (i n x w : ℕ) → w ≡ x * 256 + get_or s i 0 → x ≡ low s (i + 1) n → w ≡ low s i (suc n)
-unfolding low
-low-next s i n x w p q = p ∙ ap (λ (y : ℕ). y * 256 + get_or s i 0) q
+low_fed : (bs : List ℕ) (r : ℕ) → ((k : ℕ) → get_or bs k 0 < 256) → feed (length bs) r (low bs) ≡ bytes_of r bs
+unfolding feed bytes_of
+low_fed [] r h = refl
+low_fed (b ∷ bs) r h =
+    ap₂ (feed (length bs)) (ap (byte_of r) (digits_mod (low bs) {m = 256} (h 0))) (digits_div (low bs) {m = 256} (h 0))
+    ∙ low_fed bs (byte_of r b) (λ k. h (suc k))
 
-pub low_fed : (n : ℕ) (s : List ℕ) (i r : ℕ) → i + n ≤ length s → ((k : ℕ) → get_or s k 0 < 256)
-    → bytes_of r (drop i s) ≡ bytes_of (feed n r (low s i n)) (drop (i + n) s)
-unfolding low feed
-low_fed zero s i r h b = ap (λ (k : ℕ). bytes_of r (drop k s)) (sym (add-zero i))
-low_fed (suc n) s i r h b =
-    let x = low s (i + 1) n in
-    let k : i + 1 + n ≡ i + suc n = omega arith in
-    sym (step s i r (omega arith))
-    ∙ low_fed n s (i + 1) (byte_of r (get_or s i 0)) (omega arith) b
-    ∙ ap₂ bytes_of
-    (ap₂ (feed n) (ap (byte_of r) (sym (digits_mod x {m = 256} (b i)))) (sym (digits_div x {m = 256} (b i))))
-    (ap (λ (j : ℕ). drop j s) k)
+low_eight : (bs : List ℕ) → length bs ≡ 8 → from_le_bytes w64 bs ≡ low bs
+low_eight bs l =
+    let e : (i : ℕ) → i < length bs → low (drop i bs) ≡ low (drop (suc i) bs) * 256 + get_or bs i 0 = λ i h. rw (drop-cons bs i 0) in
+    let z : low (drop 8 bs) ≡ 0 = rw (drop_of_length-le bs {i = 8} (omega arith)) in
+    omega (arith, e 0 (omega arith), e 1 (omega arith), e 2 (omega arith), e 3 (omega arith), e 4 (omega arith), e 5 (omega arith), e 6 (omega arith), e 7 (omega arith), z)
+
+-- the 8 bytes of a word
+pub word_next : (bs : List ℕ) → length bs ≡ 8 → ((k : ℕ) → get_or bs k 0 < 256) → Next bs 0 (from_le_bytes w64 bs)
+unfolding bytes_of
+word_next bs eight bytes r =
+    rw (drop_of_length-le bs {i = 8} (omega arith), low_eight bs eight, ← eight) (sym (low_fed bs r bytes))
+
+-- a word more
+pub word_more : (words : List (List ℕ)) (i r w : ℕ) → i < length words → length (get_or words i []) ≡ 8 → Next (get_or words i []) 0 w
+    → r ≡ crc_of (concat (take i words)) → feed 8 r w ≡ crc_of (concat (take (i + 1) words))
+unfolding crc_of bytes_of
+word_more words i r w h eight next e =
+    let word = get_or words i [] in
+    let joined : concat (take i words) ++ word ≡ concat (take (i + 1) words) = rw (add-one, take-suc words i [], concat-append, append-nil) in
+    let fed : bytes_of r word ≡ feed 8 r w = rw (drop_of_length-le word {i = 8} (omega arith)) at (next r) in
+    sym fed
+    ∙ ap (λ (x : ℕ). bytes_of x word) e
+    ∙ sym (bytes-append 0 (concat (take i words)) word)
+    ∙ ap (bytes_of 0) joined
+
+-- the words of a content, and the bytes behind them
+pub words_joined : (n k : ℕ) (s : List ℕ) → concat (first_chunks n k s) ++ drop (k * n) s ≡ s
+words_joined n zero s = rw zero-mul
+words_joined n (suc k) s =
+    rw (suc-mul, add_comm (k * n) n, ← drop-drop, append_assoc, words_joined n k (drop n s)) (take-append-drop n s)
+
+pub words_first : (s : List ℕ) (r : ℕ) (words rest : List ℕ) → r ≡ crc_of words → words ++ rest ≡ s → bytes_of r rest ≡ crc_of s
+unfolding crc_of
+words_first s r words rest e j = ap (λ (x : ℕ). bytes_of x rest) e ∙ sym (bytes-append 0 words rest) ∙ ap (bytes_of 0) j
 
 -- a unit of m + n bytes, cut
 pub feed-cut : (m n r u : ℕ) → feed (m + n) r u ≡ feed n (feed m r (u % 2 ^ (8 * m))) (u / 2 ^ (8 * m))

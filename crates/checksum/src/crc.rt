@@ -1,6 +1,7 @@
 // The CRC of a DST frame's content: 32 bits, most significant bit first, polynomial 0x80000011, start 0, nothing inverted.
-ghost use Rattle.std.specs.Prelude.{◌≡◌, ◌*◌, ◌≤◌, length, drop};
-ghost use Rattle.checksum.specs.Crc.{Right, byte_of, bytes_of, crc_of};
+ghost use Rattle.std.specs.Prelude.{◌≡◌};
+ghost use Rattle.std.specs.List.{concat};
+ghost use Rattle.checksum.specs.Crc.{Right, byte_of, crc_of};
 ghost use Rattle.checksum.specs.Steps.{ring_of};
 
 use crate::fold::{folded, halved};
@@ -59,21 +60,19 @@ fn fed(table: &[u32; 256], bytes: &[u64; 32]) -> u32
     ensures { result ≡ ring_of 1 bytes.now 0 }
 {
     let mut s: u32 = 0;
-    let mut j: usize = 0;
-    while j < 32 {
-        s = next(table, s, (bytes[j] % 256) as u8);
-        j += 1;
+    for unit in bytes {
+        s = next(table, s, (unit % 256) as u8);
     }
     s
 }
 
-// The register after the first n words: 32 words, folded to 32 halves, quarters and bytes.
-fn words(table: &[u32; 256], content: &[u8], n: usize) -> u32
-    requires { Right table.now × (n * 8 ≤ length content.now) }
-    ensures { bytes_of result (drop (n * 8) content.now) ≡ crc_of content.now }
+// The register after words: 32 words, folded to 32 halves, quarters and bytes.
+fn words(table: &[u32; 256], words: &[[u8; 8]]) -> u32
+    requires { Right table.now }
+    ensures { result ≡ crc_of (concat words.now) }
 {
-    let ring = folded(content, n);
-    let halves = halved(&ring, n, 0x1_0000_0000);
+    let ring = folded(words);
+    let halves = halved(&ring, words.len(), 0x1_0000_0000);
     let quarters = halved(&halves, 0, 0x1_0000);
     let bytes = halved(&quarters, 0, 0x100);
     fed(table, &bytes)
@@ -84,16 +83,15 @@ pub fn crc(content: &[u8]) -> u32
     ensures { result ≡ crc_of content.now }
 {
     let table = TABLE;
-    let n = content.len() / 8;
+    let (whole, after) = content.as_chunks();
     let mut r: u32 = 0;
-    let mut i = 0;
-    if SHORT <= n {
-        r = words(&table, content, n);
-        i = n * 8;
+    let mut rest = content;
+    if SHORT <= whole.len() {
+        r = words(&table, whole);
+        rest = after;
     }
-    while i < content.len() {
-        r = next(&table, r, content[i]);
-        i += 1;
+    for byte in rest {
+        r = next(&table, r, *byte);
     }
     r
 }

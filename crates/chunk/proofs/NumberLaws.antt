@@ -24,12 +24,12 @@ be-append m zero x = rw (append-nil, div-one, add-zero)
 be-append m (suc n) x = rw (pow-succ', ← div-div-eq-div-mul, ← append_assoc, add-suc) (rw (be-append m n (x / 256)))
 
 -- what `to_be_bytes` gives
-pub high-first : (n x : ℕ) → bytes_high_first n x ≡ be n x
+pub high_first : (n x : ℕ) → bytes_high_first n x ≡ be n x
 unfolding be
-high-first zero x = refl
-high-first (suc zero) x = refl
-high-first (suc (suc n)) x = let e : 1 + suc n ≡ suc (suc n) = omega arith in
-    rw (high-first (suc n) x) (rw e at (be-append 1 (suc n) x))
+high_first zero x = refl
+high_first (suc zero) x = refl
+high_first (suc (suc n)) x = let e : 1 + suc n ≡ suc (suc n) = omega arith in
+    rw (high_first (suc n) x) (rw e at (be-append 1 (suc n) x))
 
 -- the last n bytes
 pub be-last : (m n x : ℕ) → take n (drop m (be (m + n) x)) ≡ be n x

@@ -26,7 +26,7 @@ impl Cursor {
         }
     }
 
-    // Not by `bytes`: where a byte fits, the place after it needs no bound, and a loop of such bytes takes 0.65 ns for each, not 1.13.
+    // Not by `bytes`: where a byte fits, the place after it needs no bound, and a loop of such bytes takes 0.41 ns for each, not 1.13.
     pub fn byte(self, out: &mut [u8], b: u8) -> Cursor
         ensures { Appended out.old self.at (b ∷ []) out.new result.at }
     {

@@ -3,11 +3,13 @@ use mathlib.Core.Path.{◌≡◌, refl, sym, ap, ◌∙◌}
 use mathlib.Core.Logic.{◌⊎◌, inl, inr, ⊎_elim}
 use mathlib.Core.Bool.{true, cond}
 use mathlib.Core.List.{List, [], ◌∷◌, ◌++◌, map, flat_map, map-append}
-use Prim.Native.Nat.{ℕ, zero, suc, ◌+◌, ◌*◌, ◌-◌, ◌/◌, ◌%◌, ◌≤◌, ◌<◌}
-use native.Mathlib.Nat.{mul-zero, zero-mul, mul-suc, mul-add, add_comm, mul-le-mul_left, div-add-mod, mod-lt, not-suc-le-zero}
-use native.Mathlib.Numerals.{add-one}
+use Prim.Native.Nat.{ℕ, zero, suc, ◌+◌, ◌*◌, ◌-◌, ◌/◌, ◌%◌, ◌≤◌, ◌<◌, min}
+use native.Mathlib.Nat.{mul-zero, zero-mul, mul-suc, mul-add, mul_comm, add_comm, mul-le-mul_left, div-add-mod, mod-lt, not-suc-le-zero}
 use native.Mathlib.Omega.{arith}
 use lib.Dec.{ltb}
+use Rattle.std.specs.Int.{div_ceil}
+use Rattle.std.proofs.lemmas.Grind.{div_ceil_times}
+use Rattle.std.specs.Prelude.{Some}
 use lib.ListN.{length, take, drop, replicate, length-append, length-drop, length-replicate, get_or-replicate, replicate-append-replicate, take-append-drop}
 use lib.Seq.{length-take-le, take_at, drop_at}
 use Rattle.chunk.specs.Rows.{first_rows}
@@ -18,14 +20,13 @@ use Rattle.dst.specs.Start.{sum, start}
 use Rattle.sound_reads.specs.Place.{place_of}
 use Rattle.sound_reads.specs.Steps.{Inside}
 use Rattle.window.specs.declared.window.Window.{Window}
-use Rattle.sound_reads.specs.declared.lent.Fill.TheVariants.{Filled}
 use Rattle.sound_reads.specs.Positions.{positions_for, number, between}
 use Rattle.window.specs.Window.{Wrote}
 use Rattle.sound_reads.specs.Fill.{Filling}
 use Rattle.sound_reads.specs.Lent.{needed_at, contents_with}
 use Rattle.window.proofs.TestLaws.{lt-or-le}
 use Rattle.sound_reads.proofs.PlaceLaws.{place_is, place_end}
-use Rattle.sound_reads.proofs.PositionsLaws.{Nothing, Some, positions_are, positions_known, touching}
+use Rattle.sound_reads.proofs.PositionsLaws.{Nothing, Something, positions_are, positions_known, touching}
 use Rattle.sound_reads.proofs.PartLaws.{part_filled}
 
 pub sum-replicate : (f n : ℕ) → sum (replicate n f) ≡ f * n
@@ -93,54 +94,30 @@ module _ (f n : ℕ) where
         full = ⊎_elim (λ h. inl (omega arith)) (λ h. inr (omega arith)) u;
       }))
 
-  module _ (first within count : ℕ) (known : first < n) (inside : within < f) (wanted : 0 < count) where
-    -- they end in the same frame
-    pub ends_here : count ≤ f - within → record { first = first; end = first + 1 } ≡ positions_for (replicate n f) (start (replicate n f) first + within) count
-    ends_here h = let m = mul-suc f first in rw add-one (touch first within count first (omega arith) known inside wanted (omega arith) (inl (omega arith)))
+  -- they end in one of the frames after it, in the last, or past the sound
+  pub ends : (first within count later : ℕ) → first < n → within < f → 0 < count → later ≡ min (div_ceil (count - (f - within)) f) (n - first - 1)
+      → record { first = first; end = first + 1 + later } ≡ positions_for (replicate n f) (start (replicate n f) first + within) count
+  ends first within count later known inside wanted e =
+      let most = div_ceil (count - (f - within)) f in
+      let t = div_ceil_times (count - (f - within)) f (omega arith) in
+      let turned = mul_comm most f in
+      let up : f * later ≤ f * most = mul-le-mul_left f (omega arith) in
+      let begin = mul-add f first later in
+      let over = mul-suc f (first + later) in
+      let short : f * later < within + count =
+      ⊎_elim
+      (λ l. let one : f * 1 ≤ f * later = mul-le-mul_left f (omega arith) in omega (arith, t.1))
+      (λ (z : later ≤ 0). let none : later ≡ 0 = omega arith in rw none (omega arith))
+      (lt-or-le 0 later) in
+      let end : first + 1 + later ≡ suc (first + later) = omega arith in
+      rw end
+      (touch first within count (first + later) (omega arith) (omega arith) inside wanted (omega arith)
+      (⊎_elim
+      (λ l. inr (omega arith))
+      (λ l. let down : f * most ≤ f * later = mul-le-mul_left f (omega arith) in inl (omega (arith, t.0)))
+      (lt-or-le (n - first - 1) most)))
 
-    module _ (more : f - within < count) where
-      -- how many frames later the last byte is, less one
-      later : ℕ
-      later = (count - (f - within) - 1) / f
-
-      -- the bytes up to the start of the last frame, and up to its end
-      last-start : f * suc (first + later) < f * first + within + count
-      unfolding later
-      last-start =
-          let d = div-add-mod (count - (f - within) - 1) f in
-          let e = mul-suc f (first + later) in
-          let g = mul-add f first later in
-          omega arith
-
-      last_end : f * first + within + count ≤ f * suc (suc (first + later))
-      unfolding later
-      last_end =
-          let d = div-add-mod (count - (f - within) - 1) f in
-          let r : (count - (f - within) - 1) % f < f = mod-lt (count - (f - within) - 1) (omega arith) in
-          let e = mul-suc f (suc (first + later)) in
-          let e' = mul-suc f (first + later) in
-          let g = mul-add f first later in
-          omega arith
-
-      -- they end in one of the frames after it
-      pub ends-later : (count - (f - within) - 1) / f + 1 < n - first - 1
-          → record { first = first; end = first + 1 + ((count - (f - within) - 1) / f + 1) } ≡ positions_for (replicate n f) (start (replicate n f) first + within) count
-      unfolding later
-      ends-later l =
-          let e : first + 1 + ((count - (f - within) - 1) / f + 1) ≡ suc (suc (first + later)) = omega arith in
-          rw e (touch first within count (suc (first + later)) (omega arith) (omega arith) inside wanted last-start (inl last_end))
-
-      -- they end in the last frame, or the sound ends before
-      pub ends_last : n - first - 1 ≤ (count - (f - within) - 1) / f + 1
-          → record { first = first; end = n } ≡ positions_for (replicate n f) (start (replicate n f) first + within) count
-      unfolding later
-      ends_last l =
-          let e : suc (n - 1) ≡ n = omega arith in
-          let m : f * (n - 1) ≤ f * suc (first + later) = mul-le-mul_left f (omega arith) in
-          let s = last-start in
-          rw e at (touch first within count (n - 1) (omega arith) (omega arith) inside wanted (omega arith) (inr e))
-
-  pub frames-touched : (from count : ℕ) → Nothing (replicate n f) from count ⊎ Some (replicate n f) from count
+  pub frames-touched : (from count : ℕ) → Nothing (replicate n f) from count ⊎ Something (replicate n f) from count
   frames-touched from count =
       ⊎_elim
       (λ z.
@@ -223,7 +200,7 @@ module _ (f n : ℕ) (contents : List ℕ) (w : Window) (out : List ℕ) where
   pub filled-contents : f * number wanted ≡ length contents → {last : List ℕ} {v : Window}
       → Wrote contents (record { at = w.at; skip = (place_of (replicate n f) w.skip).within }) out last v
       → Filling true (dsd_sound (contents_with f wanted n contents)) w out last
-      (Filled (record { at = v.at; skip = cond (ltb (place_of (replicate n f) w.skip).position n) 0 (place_of (replicate n f) w.skip).within }))
+      (Some (record { at = v.at; skip = cond (ltb (place_of (replicate n f) w.skip).position n) 0 (place_of (replicate n f) w.skip).within }))
   unfolding dsd_sound
   filled-contents given {last} {v} q =
       let k = wanted-known in

@@ -6,11 +6,11 @@ use mathlib.Core.List.{List, [], map}
 use Prim.Native.Nat.{ℕ, zero, suc, ◌-◌, ◌*◌, ◌≤◌}
 use native.Mathlib.Omega.{arith}
 use borrow.Author.Tests.{eq-eqb}
+use Rattle.std.specs.Prelude.{Option}
 use lib.Dec.{eqb}
 use lib.ListN.{length, drop, replicate}
 use Rattle.window.specs.declared.window.Window.{Window}
 use Rattle.sound_reads.specs.declared.place.Positions.{Positions}
-use Rattle.sound_reads.specs.declared.lent.Fill.{Fill}
 use Rattle.dst.specs.Frame.{frame_bytes, dsd_sound}
 use Rattle.dst.specs.Start.{sum}
 use Rattle.sound_reads.specs.Positions.{between, number}
@@ -48,7 +48,7 @@ module _ (channels : ℕ) (xs : List (List ℕ)) (even : map (λ (c : List ℕ).
       ∙ sum-replicate f (number wants))
 
   -- what a read shows of the sound that has the needed contents is what it shows of the file's
-  pub same-sound-dsd : {last : List ℕ} {r : Fill}
+  pub same-sound-dsd : {last : List ℕ} {r : Option Window}
       → Filling true (dsd_sound (contents_with (frame_bytes channels) wants (length xs) (dsd_sound (between wants xs)))) w out last r
       → Filling true (dsd_sound xs) w out last r
   unfolding dsd_sound
@@ -63,7 +63,7 @@ module _ (channels : ℕ) (xs : List (List ℕ)) (even : map (λ (c : List ℕ).
       q
 
   -- what `dsd_data::fill` promises of those contents is a read of the file
-  pub read_real_dsd : {last : List ℕ} {r : Fill}
+  pub read_real_dsd : {last : List ℕ} {r : Option Window}
       → Filling (eqb (frame_bytes channels * number wants) (length (dsd_sound (between wants xs))))
       (dsd_sound (contents_with (frame_bytes channels) wants (length xs) (dsd_sound (between wants xs)))) w out last r
       → Filling true (dsd_sound xs) w out last r

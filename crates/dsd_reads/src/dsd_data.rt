@@ -8,9 +8,9 @@ ghost use Rattle.sound_reads.specs.Fill.{Filling};
 ghost use Rattle.sound_reads.specs.Lent.{needed_at, contents_with};
 
 use dst::frame::frame_bytes;
-use sound_reads::lent::{Fill, filled};
+use sound_reads::lent::filled;
 use sound_reads::place::{Place, Positions};
-use window::window::{Window, room};
+use window::window::Window;
 
 // The position that has the byte at a place of the sound, of n frames of so many bytes.
 fn locate(frame: u64, n: u64, place: u64) -> Place
@@ -19,14 +19,15 @@ fn locate(frame: u64, n: u64, place: u64) -> Place
 {
     let all = frame * n;
     if all <= place {
-        return Place {
+        Place {
             position: n as usize,
             within: place - all,
-        };
-    }
-    Place {
-        position: (place / frame) as usize,
-        within: place % frame,
+        }
+    } else {
+        Place {
+            position: (place / frame) as usize,
+            within: place % frame,
+        }
     }
 }
 
@@ -36,27 +37,18 @@ fn touched(frame: u64, n: u64, place: Place, count: u64) -> Positions
     ensures { result ≡ positions_for (replicate n frame) (byte_at (replicate n frame) place) count }
 {
     let first = place.position;
-    if (count == 0) | (n <= first as u64) {
+    if count == 0 || n <= first as u64 {
         return Positions { first: 0, end: 0 };
     }
     let rest = frame - place.within;
-    if count <= rest {
-        return Positions {
-            first,
-            end: first + 1,
-        };
-    }
-    let more = (count - rest - 1) / frame + 1;
-    let left = n - first as u64 - 1;
-    if more < left {
-        return Positions {
-            first,
-            end: first + 1 + more as usize,
-        };
-    }
+    // How many of the positions after the first the bytes reach.
+    let later = count
+        .saturating_sub(rest)
+        .div_ceil(frame)
+        .min(n - first as u64 - 1);
     Positions {
         first,
-        end: n as usize,
+        end: first + 1 + later as usize,
     }
 }
 
@@ -71,28 +63,25 @@ pub fn positions(channels: u8, n: u32, from: u64, count: u64) -> Positions
 }
 
 // Fills the rest of `out` with the sound of a file of n positions, after what w skips of it. Lent are the plain contents of the needed
-// positions, joined.
-pub fn fill(out: &mut [u8], w: Window, channels: u8, n: u32, contents: &[u8]) -> Fill
+// positions, joined. The answer is the place after the sound, or none if what is lent does not have the length that it should: then nothing is
+// written.
+pub fn fill(out: &mut [u8], w: Window, channels: u8, n: u32, contents: &[u8]) -> Option<Window>
     ensures { Filling
         (eqb (frame_bytes channels * number (needed_at (replicate n (frame_bytes channels)) w out.old)) (length contents.now))
         (dsd_sound (contents_with (frame_bytes channels) (needed_at (replicate n (frame_bytes channels)) w out.old) n contents.now))
         w out.old out.new result }
 {
-    let at = w.at;
-    let skip = w.skip;
     let frame = frame_bytes(channels);
-    let place = locate(frame as u64, n as u64, skip);
-    let free = room(out.len(), at);
-    let p = touched(frame as u64, n as u64, place, free as u64);
-    let first = p.first;
-    let end = p.end;
+    let place = locate(frame as u64, n as u64, w.skip);
+    let free = out.len().saturating_sub(w.at);
+    let Positions { first, end } = touched(frame as u64, n as u64, place, free as u64);
     if frame * (end - first) != contents.len() {
-        return Fill::NotLent;
+        return None;
     }
     let begin = Window {
-        at,
+        at: w.at,
         skip: place.within,
     };
     let v = begin.put(out, contents);
-    filled(v.at, place, n as usize)
+    Some(filled(v.at, place, n as usize))
 }

@@ -11,7 +11,7 @@ use borrow.Author.Tests.{lt-ltb}
 use lib.Dec.{lit≤}
 use lib.ListN.{length, take, drop, replicate, length-append, length-replicate, take-append-drop}
 use lib.Seq.{sets, sets-eq, drop-drop, paste, length-paste, take-paste, drop-paste, take_at}
-use Rattle.refusal.specs.declared.verdict.Verdict.TheVariants.{Refused}
+use Rattle.std.specs.Prelude.{Err}
 use Rattle.row_extents.specs.Extents.{too_large}
 use Rattle.rows.specs.declared.row.Row.TheVariants as row
 use Rattle.markers.specs.declared.marker.MarkerKind.TheVariants.{Index}
@@ -19,7 +19,7 @@ use Rattle.build_options.specs.declared.options.Options.{Options}
 use Rattle.rules.specs.Limits.{any_too_large, limit_faults, most_markers, longest_text}
 use Rattle.build_options.specs.Inputs.{Inputs}
 use Rattle.checks.specs.InputVerdict.{given_faults, verdict}
-use Rattle.build_answer.specs.declared.answer.Answer.{Answer}
+use Rattle.build_answer.specs.Answer.{Answer}
 use Rattle.dsdiff.specs.declared.marker.Marker.{Marker}
 use Rattle.assemble.specs.Build.{Builds}
 use Rattle.dsdiff.specs.Marker.{row_of, rows_of, looked_at}

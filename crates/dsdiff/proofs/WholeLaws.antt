@@ -13,8 +13,8 @@ use Rattle.dst.specs.Frame.{Frame}
 use Rattle.dst.specs.Unit.{lengths}
 use Rattle.dst_index.specs.Index.{shift_of, Stands}
 use Rattle.prop_fields.specs.declared.compression.Sound.TheVariants.{Dst}
-use Rattle.refusal.specs.declared.verdict.Verdict.{Verdict}
-use Rattle.refusal.specs.declared.verdict.Verdict.TheVariants.{Accepted, Refused}
+use Rattle.refusal.specs.Verdict.{Verdict}
+use Rattle.std.specs.Prelude.{Ok, Err}
 use Rattle.refusal.proofs.VerdictLaws.{or-accepted}
 use Rattle.build_options.specs.Inputs.{Inputs}
 use Rattle.checks.specs.InputVerdict.{verdict}
@@ -24,13 +24,13 @@ use Rattle.file_tree.specs.File.{header_of, trailer_of, file_of}
 use Rattle.file_tree.proofs.FileLaws.{length-header}
 use Rattle.accepted_file.proofs.AcceptedLaws.{accepted-file}
 use Rattle.accepted_file.proofs.IndexLaws.{index-leads}
-use Rattle.build_answer.specs.declared.answer.Answer.{Answer}
+use Rattle.build_answer.specs.Answer.{Answer}
 use Rattle.build_answer.specs.declared.answer.Answer.TheVariants.{Built}
 use Rattle.assemble.specs.Build.{build_verdict, Outcome, Builds}
 
 -- a build that answers lengths was accepted, and its buffers begin with header and trailer
 pub record Made (x : Inputs) (h' t' : List ℕ) (a c : ℕ) : Type 0 where
-  pub ok : verdict x ≡ Accepted
+  pub ok : verdict x ≡ Ok tt
   pub header : take a h' ≡ header_of x
   pub trailer : take c t' ≡ trailer_of x
 
@@ -38,7 +38,7 @@ pub made : (x : Inputs) (h t : List ℕ) {h' t' : List ℕ} {r : Answer} {a b c 
 made x h t {h'} {t'} {r} {a} {b} {c} outcome e = by (build_verdict x h t) refl outcome
   where
     by : (v : Verdict) → build_verdict x h t ≡ v → Outcome x v h h' t t' r → Made x h' t' a c
-    by Accepted k o =
+    by (Ok tt) k o =
         let n : a ≡ length (header_of x) = cc in
         let m : c ≡ length (trailer_of x) = cc in
         record {

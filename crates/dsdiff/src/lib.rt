@@ -6,152 +6,67 @@ pub mod marker; // marker.rt: markers as records, and the table of their rows
 
 ghost use Rattle.std.specs.Prelude.{◌≡◌, List, ◌≤◌, length, take};
 ghost use Rattle.dsdiff.specs.declared.marker.Marker.{Marker};
-ghost use Rattle.build_options.specs.Inputs.{inputs_of};
+ghost use Rattle.build_options.specs.Inputs.{inputs_of, with_markers};
 ghost use Rattle.assemble.specs.Build.{Builds};
 ghost use Rattle.dsdiff.specs.Marker.{looked_at};
 ghost use Rattle.dsdiff.specs.Table.{no_rows, filled};
 
+use assemble::build::build_rows;
 use build_answer::answer::Answer;
-use build_options::area::Area;
-use build_options::options::Options;
-use chunk_names::{InfoChunk, LocalChunk, PropertyChunk};
+use build_options::inputs::{Inputs, Lent};
 pub use marker::Marker;
-use marker::{MOST_MARKERS, Table};
+use marker::{MOST_MARKERS, Table, unpack};
+use refusal::verdict::Refusal;
 
 // The build whose markers are the first words of a table.
 fn build_part(
     table: &[u32],
     end: usize,
-    area: Area,
-    options: Options,
-    property_order: [PropertyChunk; 5],
-    info_order: [InfoChunk; 4],
-    local_order: [LocalChunk; 5],
-    local_count: u32,
-    pool: &[u32],
-    raw: &[u8],
-    tracks: &[u32],
-    comments: &[u32],
-    callers: &[u32],
-    lengths: &[u32],
+    inputs: &Inputs<'_>,
     header: &mut [u8],
     trailer: &mut [u8],
 ) -> Answer
     requires { end ≤ length table.now }
-    ensures { Builds (inputs_of area options property_order info_order local_order local_count pool.now raw.now tracks.now (take end table.now) comments.now callers.now lengths.now)
-        header.old header.new trailer.old trailer.new result }
+    ensures { Builds (with_markers (take end table.now) (inputs_of inputs.now)) header.old header.new trailer.old trailer.new result }
 {
-    assemble::build::build_rows(
-        area,
-        options,
-        property_order,
-        info_order,
-        local_order,
-        local_count,
-        pool,
-        raw,
-        tracks,
-        &table[..end],
-        comments,
-        callers,
-        lengths,
-        header,
-        trailer,
-    )
+    let lent = Lent {
+        markers: &table[..end],
+        ..inputs.lent
+    };
+    build_rows(&Inputs { lent, ..*inputs }, header, trailer)
 }
 
 // The build of n markers that the table holds, as many as it has rows for.
 fn build_table(
     table: &Table,
     n: usize,
-    area: Area,
-    options: Options,
-    property_order: [PropertyChunk; 5],
-    info_order: [InfoChunk; 4],
-    local_order: [LocalChunk; 5],
-    local_count: u32,
-    pool: &[u32],
-    raw: &[u8],
-    tracks: &[u32],
-    comments: &[u32],
-    callers: &[u32],
-    lengths: &[u32],
+    inputs: &Inputs<'_>,
     header: &mut [u8],
     trailer: &mut [u8],
 ) -> Answer
     ensures { (ms : List Marker) → table.now ≡ filled no_rows 0 ms → n ≡ length ms
-        → Builds (inputs_of area options property_order info_order local_order local_count pool.now raw.now tracks.now (looked_at options.custom_markers ms) comments.now callers.now lengths.now)
-        header.old header.new trailer.old trailer.new result }
+        → Builds (with_markers (looked_at inputs.now.options.custom_markers ms) (inputs_of inputs.now)) header.old header.new trailer.old trailer.new result }
 {
-    let mut rows = 0;
-    if options.custom_markers {
-        if MOST_MARKERS < n {
-            return Answer::Refused {
-                number: 1,
-                detail: 0,
-            };
-        }
-        rows = n * 4;
+    if !inputs.options.custom_markers {
+        return build_part(table, 0, inputs, header, trailer);
     }
-    build_part(
-        table,
-        rows,
-        area,
-        options,
-        property_order,
-        info_order,
-        local_order,
-        local_count,
-        pool,
-        raw,
-        tracks,
-        comments,
-        callers,
-        lengths,
-        header,
-        trailer,
-    )
+    if MOST_MARKERS < n {
+        return Err(Refusal::TooLarge);
+    }
+    build_part(table, n * 4, inputs, header, trailer)
 }
 
-// Header and trailer of a file into the buffers. More than 65,535 markers are refused (1); if markers are not wanted, they are not looked at.
+// Header and trailer of a file into the buffers. The markers are these records, not the rows of `inputs`. More than 65,535 of them are refused (1); if
+// markers are not wanted, they are not looked at.
 pub fn build(
-    area: Area,
-    options: Options,
-    property_order: [PropertyChunk; 5],
-    info_order: [InfoChunk; 4],
-    local_order: [LocalChunk; 5],
-    local_count: u32,
-    pool: &[u32],
-    raw: &[u8],
-    tracks: &[u32],
+    inputs: &Inputs<'_>,
     markers: &[Marker],
-    comments: &[u32],
-    callers: &[u32],
-    lengths: &[u32],
     header: &mut [u8],
     trailer: &mut [u8],
 ) -> Answer
-    ensures { Builds (inputs_of area options property_order info_order local_order local_count pool.now raw.now tracks.now (looked_at options.custom_markers markers.now) comments.now callers.now lengths.now)
-        header.old header.new trailer.old trailer.new result }
+    ensures { Builds (with_markers (looked_at inputs.now.options.custom_markers markers.now) (inputs_of inputs.now)) header.old header.new trailer.old trailer.new result }
 {
     let mut table: Table = [0; 262_140];
-    marker::unpack(markers, &mut table);
-    build_table(
-        &table,
-        markers.len(),
-        area,
-        options,
-        property_order,
-        info_order,
-        local_order,
-        local_count,
-        pool,
-        raw,
-        tracks,
-        comments,
-        callers,
-        lengths,
-        header,
-        trailer,
-    )
+    unpack(markers, &mut table);
+    build_table(&table, markers.len(), inputs, header, trailer)
 }

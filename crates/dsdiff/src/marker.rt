@@ -25,12 +25,10 @@ fn put(table: &mut Table, i: usize, m: Marker)
 {
     if i < MOST_MARKERS {
         let at = i * 4;
-        let kind = m.kind;
-        let text = m.text;
         table[at] = m.frame;
-        table[at + 1] = kind.value() as u32 * 0x1_0000 + m.flags as u32;
-        table[at + 2] = text.start;
-        table[at + 3] = text.length;
+        table[at + 1] = m.kind.value() as u32 * 0x1_0000 + m.flags as u32;
+        table[at + 2] = m.text.start;
+        table[at + 3] = m.text.length;
     }
 }
 
@@ -38,9 +36,7 @@ fn put(table: &mut Table, i: usize, m: Marker)
 pub(crate) fn unpack(markers: &[Marker], table: &mut Table)
     ensures { table.new ≡ filled table.old 0 markers.now }
 {
-    let mut i = 0;
-    while i < markers.len() {
-        put(table, i, markers[i]);
-        i += 1;
+    for (i, marker) in markers.iter().enumerate() {
+        put(table, i, *marker);
     }
 }

@@ -15,8 +15,5 @@ pub fn frame_bytes(channels: u8) -> usize
 pub fn plain_bytes(crc: bool, channels: u8) -> usize
     ensures { result ≡ plain_bytes crc channels }
 {
-    if crc {
-        return frame_bytes(channels);
-    }
-    0
+    if crc { frame_bytes(channels) } else { 0 }
 }

@@ -13,8 +13,7 @@ const FRAME_RATE: u16 = 75;
 fn rate(c: Cursor, out: &mut [u8], frames: u32) -> Cursor
     ensures { Appended out.old c.at (rate frames) out.new result.at }
 {
-    let c = c.be32(out, frames);
-    c.be16(out, FRAME_RATE)
+    c.be32(out, frames).be16(out, FRAME_RATE)
 }
 
 // FRTE.
@@ -31,8 +30,8 @@ fn frte(c: Cursor, out: &mut [u8], frames: u32) -> Cursor
 pub fn head_sized(c: Cursor, out: &mut [u8], bytes: u64, frames: usize) -> Cursor
     ensures { Appended out.old c.at (head_sized bytes frames) out.new result.at }
 {
-    let c1 = c.chunk_head(out, *b"DST ", with_frte(bytes));
-    frte(c1, out, (frames % 0x1_0000_0000) as u32)
+    let c = c.chunk_head(out, *b"DST ", with_frte(bytes));
+    frte(c, out, (frames % 0x1_0000_0000) as u32)
 }
 
 // The header of the DST chunk, and FRTE, of frames of these lengths.

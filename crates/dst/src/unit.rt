@@ -13,25 +13,12 @@ const DSTC: u64 = 16;
 // The units of so many frames, however long, have fewer than 2^63 bytes.
 const FEW: usize = 1_073_741_824;
 
-// The sum, at most the largest u64.
-pub fn plus(a: u64, b: u64) -> u64
-    ensures { result ≡ moved a b }
-{
-    if b <= u64::MAX - a {
-        return a + b;
-    }
-    u64::MAX
-}
-
 // What a frame of so many DST bytes occupies.
 pub fn unit_size(crc: bool, length: u32) -> u64
     ensures { result ≡ unit_size crc length }
 {
     let dstf = occupied(length as u64);
-    if crc {
-        return dstf + DSTC;
-    }
-    dstf
+    if crc { dstf + DSTC } else { dstf }
 }
 
 // The sound's length, of so few frames that the sum fits a u64: the loop has no test, and is compiled to take several lengths at a time.
@@ -39,11 +26,9 @@ fn units_of_few(crc: bool, lengths: &[u32]) -> u64
     requires { length lengths.now ≤ 1_073_741_824 }
     ensures { result ≡ sum (sizes crc lengths.now) }
 {
-    let mut all: u64 = 0;
-    let mut i = 0;
-    while i < lengths.len() {
-        all += unit_size(crc, lengths[i]);
-        i += 1;
+    let mut all = 0;
+    for &length in lengths {
+        all += unit_size(crc, length);
     }
     all
 }
@@ -53,10 +38,8 @@ fn units_of_many(crc: bool, lengths: &[u32]) -> u64
     ensures { result ≡ min (sum (sizes crc lengths.now)) (2 ^ 64 - 1) }
 {
     let mut all: u64 = 0;
-    let mut i = 0;
-    while i < lengths.len() {
-        all = plus(all, unit_size(crc, lengths[i]));
-        i += 1;
+    for &length in lengths {
+        all = all.saturating_add(unit_size(crc, length));
     }
     all
 }
@@ -66,26 +49,24 @@ pub fn units(crc: bool, lengths: &[u32]) -> u64
     ensures { result ≡ min (sum (sizes crc lengths.now)) (2 ^ 64 - 1) }
 {
     if lengths.len() <= FEW {
-        return units_of_few(crc, lengths);
+        units_of_few(crc, lengths)
+    } else {
+        units_of_many(crc, lengths)
     }
-    units_of_many(crc, lengths)
 }
 
 // Where the unit of position i starts in the sound.
 pub fn start(crc: bool, lengths: &[u32], i: usize) -> u64
     ensures { result ≡ min (start (sizes crc lengths.now) i) (2 ^ 64 - 1) }
 {
-    if i < lengths.len() {
-        return units(crc, &lengths[0..i]);
-    }
-    units(crc, lengths)
+    units(crc, &lengths[..i.min(lengths.len())])
 }
 
 // FRTE and so many bytes of units.
 pub(crate) fn with_frte(bytes: u64) -> u64
     ensures { result ≡ moved 18 bytes }
 {
-    plus(18, bytes)
+    bytes.saturating_add(18)
 }
 
 // The data size of the DST chunk: FRTE and the units.

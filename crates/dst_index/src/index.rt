@@ -4,7 +4,10 @@ ghost use Rattle.chunk.specs.Append.{Appended, moved};
 ghost use Rattle.dst_index.specs.Index.{shift_of, entry, index, dsti};
 
 use chunk::Cursor;
-use dst::unit::{plus, unit_size};
+use dst::unit::unit_size;
+
+// Bytes of an entry.
+const ENTRY: usize = 12;
 
 // What an entry's offset leads to.
 #[derive(Clone, Copy)]
@@ -19,8 +22,8 @@ impl DstIndexOffset {
         ensures { result ≡ shift_of self }
     {
         match self {
-            DstIndexOffset::ChunkHeader => return 0,
-            DstIndexOffset::FrameData => return 12,
+            DstIndexOffset::ChunkHeader => 0,
+            DstIndexOffset::FrameData => 12,
         }
     }
 }
@@ -29,13 +32,12 @@ impl DstIndexOffset {
 fn entry(c: Cursor, out: &mut [u8], offset: u64, length: u32) -> Cursor
     ensures { Appended out.old c.at (entry offset length) out.new result.at }
 {
-    let c1 = c.be64(out, offset);
-    c1.be32(out, length)
+    c.be64(out, offset).be32(out, length)
 }
 
 // An entry for each frame, where the first unit starts at `base`, from the file's start.
 pub fn index(
-    c: Cursor,
+    mut c: Cursor,
     out: &mut [u8],
     crc: bool,
     offset: DstIndexOffset,
@@ -44,26 +46,12 @@ pub fn index(
 ) -> Cursor
     ensures { Appended out.old c.at (index crc (moved base (shift_of offset)) lengths.now) out.new result.at }
 {
-    let mut p = c;
-    let mut at = plus(base, offset.shift());
-    let mut i = 0;
-    while i < lengths.len() {
-        let length = lengths[i];
-        p = entry(p, out, at, length);
-        at = plus(at, unit_size(crc, length));
-        i += 1;
+    let mut at = base.saturating_add(offset.shift());
+    for &length in lengths {
+        c = entry(c, out, at, length);
+        at = at.saturating_add(unit_size(crc, length));
     }
-    p
-}
-
-// Bytes of the entries of so many frames, at most the largest usize.
-fn index_size(frames: usize) -> usize
-    ensures { result ≡ moved 0 (12 * frames) }
-{
-    if frames <= 1_537_228_672_809_129_301 {
-        return 12 * frames;
-    }
-    usize::MAX
+    c
 }
 
 // DSTI, where the first unit starts at `base`, from the file's start.
@@ -94,9 +82,9 @@ fn dsti_data(
 ) -> Cursor
     ensures { Appended out.old c.at (index crc (moved base (shift_of offset)) lengths.now) out.new result.at }
 {
-    let at = c.at;
-    if out.len() <= at {
-        return c.skip(index_size(lengths.len()));
+    if out.len() <= c.at {
+        c.skip(lengths.len().saturating_mul(ENTRY))
+    } else {
+        index(c, out, crc, offset, base, lengths)
     }
-    index(c, out, crc, offset, base, lengths)
 }

@@ -6,11 +6,11 @@ use mathlib.Core.List.{List, [], ◌∷◌, flat_map}
 use Prim.Native.Nat.{ℕ, zero, suc, ◌-◌, ◌*◌}
 use native.Mathlib.Nat.{mul-zero, zero-mul, mul-suc, add_comm}
 use borrow.Author.Tests.{eq-eqb}
+use Rattle.std.specs.Prelude.{Option}
 use lib.ListN.{length, take, drop, length-append}
 use lib.Seq.{take_at, drop_at}
 use Rattle.window.specs.declared.window.Window.{Window}
 use Rattle.sound_reads.specs.declared.place.Positions.{Positions}
-use Rattle.sound_reads.specs.declared.lent.Fill.{Fill}
 use Rattle.dst.specs.Frame.{Frame, frame_bytes, plain_bytes}
 use Rattle.dst.specs.Unit.{unit_bytes, sound, lengths, sizes}
 use Rattle.dst.specs.Start.{sum}
@@ -99,7 +99,7 @@ module _ (crc : Bool) (channels : ℕ) (fs : List Frame) (plain : Plain crc chan
   given = rw (← lengths_some) (lent-given crc channels some plain-some)
 
   -- what a read shows of the sound that has the needed frames is what it shows of the file's
-  pub same-sound : {last : List ℕ} {r : Fill}
+  pub same-sound : {last : List ℕ} {r : Option Window}
       → Filling true (sound crc (frames_with (plain_bytes crc channels) needs (lengths fs) (codes some) (contents crc some))) w out last r
       → Filling true (sound crc fs) w out last r
   unfolding sound
@@ -113,7 +113,7 @@ module _ (crc : Bool) (channels : ℕ) (fs : List Frame) (plain : Plain crc chan
       q
 
   -- what `dst_data::fill` promises of those frames is a read of the file
-  pub read_real : {last : List ℕ} {r : Fill}
+  pub read_real : {last : List ℕ} {r : Option Window}
       → Filling (is_lent (plain_bytes crc channels) (between needs (lengths fs)) (lengths some) (codes some) (contents crc some))
       (sound crc (frames_with (plain_bytes crc channels) needs (lengths fs) (codes some) (contents crc some))) w out last r
       → Filling true (sound crc fs) w out last r

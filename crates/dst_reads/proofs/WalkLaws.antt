@@ -1,23 +1,26 @@
 -- The walk over the lengths, a block or a frame at a time: the units' sizes are a function of the frames' lengths. Assumes nothing.
 use mathlib.Core.Path.{◌≡◌, refl, sym, ap, ◌∙◌}
-use mathlib.Core.Logic.{◌⊎◌, inl, inr, ⊎_elim}
+use mathlib.Core.Logic.{◌⊎◌, inl, inr}
 use mathlib.Core.Bool.{Bool}
-use mathlib.Core.List.{List, map}
-use Prim.Native.Nat.{ℕ, suc, ◌+◌, ◌-◌, ◌≤◌, ◌<◌}
-use native.Mathlib.Nat.{zero-add}
+use mathlib.Core.List.{List, map, map-append}
+use Prim.Native.Nat.{ℕ, zero, suc, ◌+◌, ◌-◌, ◌*◌, ◌≤◌, ◌<◌}
+use native.Mathlib.Nat.{zero-add, zero-mul, add_comm, mul_comm, mul-suc, not-suc-le-zero, le_of_suc-le-suc}
 use native.Mathlib.Numerals.{add-one}
 use native.Mathlib.Omega.{arith}
 use lib.Bits.{bit_or, and_le_l, and_le_r, or_add_and}
-use lib.ListN.{length, get_or, length-map}
+use lib.ListN.{length, take, drop, get_or, length-map}
+use lib.Seq.{take-add, drop-drop}
+use borrow.Author.Count.{below_more}
+use Rattle.std.specs.Simd.{first_chunks}
 use Rattle.sound_reads.specs.declared.place.Place.{Place}
 use Rattle.chunk.specs.Chunk.{occupied}
-use Rattle.dst.specs.Unit.{unit_size}
-use Rattle.dst.specs.Start.{start}
+use Rattle.dst.specs.Unit.{unit_size, sizes}
+use Rattle.dst.specs.Start.{sum, start}
 use Rattle.sound_reads.specs.Place.{place_of}
 use Rattle.sound_reads.specs.Steps.{Inside}
 use Rattle.sound_reads.specs.Positions.{positions_for}
-use Rattle.window.proofs.TestLaws.{lt-or-le}
-use Rattle.dst.proofs.StartLaws.{start-zero, start-suc, size-at}
+use Rattle.dst.proofs.StartLaws.{sum-append, start-zero, start-suc, size-at}
+use Rattle.dst.proofs.UnitLaws.{start-front}
 use Rattle.sound_reads.proofs.PlaceLaws.{place_is, place_end}
 use Rattle.sound_reads.proofs.PositionsLaws.{positions_are}
 
@@ -33,14 +36,27 @@ or_left a b = omega (arith, or_add_and a b, and_le_r a b)
 or_right : (a b : ℕ) → b ≤ bit_or a b
 or_right a b = omega (arith, or_add_and a b, and_le_l a b)
 
--- so a number that has the bits of the lengths from position k on is no smaller than any of them
-pub bound-on : (ls : List ℕ) (k i most : ℕ) → ((j : ℕ) → j < i → get_or ls (k + j) 0 ≤ most)
-    → (j : ℕ) → j < i + 1 → get_or ls (k + j) 0 ≤ bit_or most (get_or ls (k + i) 0)
-bound-on ls k i most h j l =
-    ⊎_elim
-    (λ g. omega (arith, h j g, or_left most (get_or ls (k + i) 0)))
-    (λ g. let e : j ≡ i = omega arith in rw e (or_right most (get_or ls (k + i) 0)))
-    (lt-or-le j i)
+-- so a number that has the bits of the lengths before position i, and of the length there, is no smaller than any of them
+pub bound-on : (ls : List ℕ) (i most : ℕ) → ((j : ℕ) → j < i → get_or ls j 0 ≤ most)
+    → (j : ℕ) → j < i + 1 → get_or ls j 0 ≤ bit_or most (get_or ls i 0)
+bound-on ls i most h =
+    below_more _ _
+    (λ j g. omega (arith, h j g, or_left most (get_or ls i 0)))
+    (or_right most (get_or ls i 0))
+
+-- block i of n lengths
+pub block_at : (n k : ℕ) (ls : List ℕ) (i : ℕ) (d : List ℕ) → i < k → get_or (first_chunks n k ls) i d ≡ take n (drop (i * n) ls)
+block_at n zero ls i d h = absurd (not-suc-le-zero h)
+block_at n (suc k) ls zero d h = rw zero-mul
+block_at n (suc k) ls (suc i) d h =
+    let e : suc i * n ≡ n + i * n = rw mul_comm (mul-suc n i ∙ add_comm (n * i) n ∙ ap (λ (m : ℕ). n + m) (mul_comm n i)) in
+    rw e (block_at n k (drop n ls) i d (le_of_suc-le-suc h) ∙ ap (take n) (drop-drop (i * n) n ls))
+
+-- the units of so many frames from position k on
+pub block_on : (crc : Bool) (ls : List ℕ) (k n : ℕ) → start (sizes crc ls) (k + n) ≡ start (sizes crc ls) k + sum (sizes crc (take n (drop k ls)))
+block_on crc ls k n =
+    rw (start-front crc ls (k + n), start-front crc ls k, take-add k n ls, map-append (unit_size crc) (take k ls) (take n (drop k ls)))
+    (sum-append (sizes crc (take k ls)) (sizes crc (take n (drop k ls))))
 
 -- `left` of `count` bytes from a place on, the first of which is in the unit of frame `first`, are those from the unit of frame k on, less the
 -- bytes of that unit before the place
@@ -62,14 +78,6 @@ module _ (f : ℕ → ℕ) (ls : List ℕ) where
 
   pub inside-unit : (a : Place) → Inside (map f ls) a → a.position < length ls → a.within < f (get_or ls a.position 0)
   inside-unit a i h = let n = length-sizes in rw (size-at f ls a.position h) at (i.short (omega arith))
-
-  -- the units from position k on, added up one after the other
-  pub block_on : (k i all : ℕ) → k + i < length ls → start (map f ls) (k + i) ≡ start (map f ls) k + all
-      → start (map f ls) (k + (i + 1)) ≡ start (map f ls) k + (all + f (get_or ls (k + i) 0))
-  block_on k i all h b =
-      let e = next_start (k + i) h in
-      let j : k + (i + 1) ≡ suc (k + i) = omega arith in
-      rw j (omega arith)
 
   pub walk_starts : (place : ℕ) → start (map f ls) 0 + place ≡ place
   walk_starts place = rw (start-zero (map f ls)) (zero-add place)

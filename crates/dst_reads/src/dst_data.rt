@@ -16,22 +16,18 @@ use crate::walk::{locate, touched};
 use checksum::crc::crc;
 use chunk::Cursor;
 use dst::frame::plain_bytes;
-use sound_reads::lent::{Fill, filled, is_lent};
+use sound_reads::lent::{filled, is_lent};
 use sound_reads::place::Positions;
-use window::window::{Window, room};
+use window::window::Window;
 
 // A frame's DSTF chunk: header, DST bytes, pad.
 fn dstf(out: &mut [u8], w: Window, frame: &[u8]) -> Window
     ensures { Wrote (chunk (ascii "DSTF") frame.now) w out.old out.new result }
 {
     let mut header = [0u8; 12];
-    let c = Cursor::new();
-    c.chunk_head(&mut header, *b"DSTF", frame.len() as u64);
-    let w1 = w.put(out, &header);
-    let w2 = w1.put(out, frame);
-    let zero = [0u8];
+    Cursor::new().chunk_head(&mut header, *b"DSTF", frame.len() as u64);
     let pad = frame.len() % 2;
-    w2.put(out, &zero[0..pad])
+    w.put(out, &header).put(out, frame).put(out, &[0u8][..pad])
 }
 
 // A DSTC chunk with the CRC of a frame's plain content.
@@ -39,9 +35,8 @@ fn dstc_bytes(content: &[u8]) -> [u8; 16]
     ensures { result ≡ chunk (ascii "DSTC") (be 4 (crc_of content.now)) }
 {
     let mut bytes = [0u8; 16];
-    let c = Cursor::new();
-    let c1 = c.chunk_head(&mut bytes, *b"DSTC", 4);
-    c1.be32(&mut bytes, crc(content));
+    let c = Cursor::new().chunk_head(&mut bytes, *b"DSTC", 4);
+    c.be32(&mut bytes, crc(content));
     bytes
 }
 
@@ -49,29 +44,25 @@ fn dstc_bytes(content: &[u8]) -> [u8; 16]
 fn dstc(out: &mut [u8], w: Window, content: &[u8]) -> Window
     ensures { Wrote (chunk (ascii "DSTC") (be 4 (crc_of content.now))) w out.old out.new result }
 {
-    let skip = w.skip;
-    if (room(out.len(), w.at) == 0) | (16 <= skip) {
-        return w.pass(16);
+    if out.len() <= w.at || 16 <= w.skip {
+        w.pass(16)
+    } else {
+        w.put(out, &dstc_bytes(content))
     }
-    let bytes = dstc_bytes(content);
-    w.put(out, &bytes)
 }
 
 // A frame's unit.
 fn unit(out: &mut [u8], w: Window, crc: bool, frame: &[u8], content: &[u8]) -> Window
     ensures { Wrote (unit_bytes crc (record { code = frame.now; content = content.now })) w out.old out.new result }
 {
-    let w1 = dstf(out, w, frame);
-    if crc {
-        return dstc(out, w1, content);
-    }
-    w1
+    let w = dstf(out, w, frame);
+    if crc { dstc(out, w, content) } else { w }
 }
 
 // The units of frames of these lengths, their DST bytes joined, and n bytes of content for each joined.
 fn units(
     out: &mut [u8],
-    w: Window,
+    mut w: Window,
     crc: bool,
     lengths: &[u32],
     frames: &[u8],
@@ -82,19 +73,16 @@ fn units(
     requires lengths_value_2 { n * length lengths.now ≡ length contents.now }
     ensures { Wrote (sound crc (lent_frames n lengths.now frames.now contents.now)) w out.old out.new result }
 {
-    let mut v = w;
-    let mut k = 0;
-    let mut b = 0;
-    let mut c = 0;
-    while k < lengths.len() {
-        let e = b + lengths[k] as usize;
-        let f = c + n;
-        v = unit(out, v, crc, &frames[b..e], &contents[c..f]);
-        b = e;
-        c = f;
-        k += 1;
+    let mut frames_left = frames;
+    let mut contents_left = contents;
+    for &length in lengths {
+        let (frame, later_frames) = frames_left.split_at(length as usize);
+        let (content, later_contents) = contents_left.split_at(n);
+        w = unit(out, w, crc, frame, content);
+        frames_left = later_frames;
+        contents_left = later_contents;
     }
-    v
+    w
 }
 
 // The positions that a read of so many bytes from a place of the sound on needs: the first whose unit it touches and one past the last, 0
@@ -107,7 +95,8 @@ pub fn positions(crc: bool, lengths: &[u32], from: u64, count: u64) -> Positions
 }
 
 // Fills the rest of `out` with the sound of a file, after what w skips of it. Lent are the lengths of the needed positions, their DST bytes
-// joined and, with CRC on, their plain contents joined.
+// joined and, with CRC on, their plain contents joined. The answer is the place after the sound, or none if what is lent does not have the
+// lengths that it should: then nothing is written.
 pub fn fill(
     out: &mut [u8],
     w: Window,
@@ -117,7 +106,7 @@ pub fn fill(
     lent: &[u32],
     frames: &[u8],
     contents: &[u8],
-) -> Fill
+) -> Option<Window>
     ensures { Filling
         (is_lent (plain_bytes crc channels) (between (needed_at (sizes crc lengths.now) w out.old) lengths.now)
         lent.now frames.now contents.now)
@@ -125,21 +114,17 @@ pub fn fill(
         frames.now contents.now))
         w out.old out.new result }
 {
-    let at = w.at;
-    let skip = w.skip;
-    let place = locate(crc, lengths, skip);
-    let free = room(out.len(), at);
-    let p = touched(crc, lengths, place, free as u64);
-    let first = p.first;
-    let end = p.end;
+    let place = locate(crc, lengths, w.skip);
+    let free = out.len().saturating_sub(w.at);
+    let Positions { first, end } = touched(crc, lengths, place, free as u64);
     let n = plain_bytes(crc, channels);
     if !is_lent(&lengths[first..end], lent, frames, n, contents) {
-        return Fill::NotLent;
+        return None;
     }
     let begin = Window {
-        at,
+        at: w.at,
         skip: place.within,
     };
     let v = units(out, begin, crc, lent, frames, n, contents);
-    filled(v.at, place, lengths.len())
+    Some(filled(v.at, place, lengths.len()))
 }

@@ -10,16 +10,16 @@ use lib.ListN.{length, take, get_or}
 use Rattle.chunk.specs.Append.{overlay}
 use Rattle.tree.specs.Gather.{Read, refused, accepted}
 use Rattle.dst.specs.Frame.{Frame}
-use Rattle.refusal.specs.declared.verdict.Verdict.{Verdict}
+use Rattle.refusal.specs.Verdict.{Verdict}
 use Rattle.refusal.specs.declared.verdict.Verdict.TheVariants as verdict
 use Rattle.refusal.specs.Verdict.{or_else}
 use Rattle.build_options.specs.Inputs.{Inputs}
 use Rattle.words.specs.Border.{words_fault}
-use Rattle.build_answer.specs.declared.answer.Answer.{Answer}
+use Rattle.build_answer.specs.Answer.{Answer}
 use Rattle.build_answer.specs.declared.answer.Answer.TheVariants.{Built, Refused}
 use Rattle.build_answer.specs.Answer.{build_number, build_values}
 use Rattle.assemble.specs.Build.{build_verdict, Outcome}
-use Rattle.read_answer.specs.declared.answer.ReadAnswer.{ReadAnswer}
+use Rattle.read_answer.specs.Answer.{ReadAnswer}
 use Rattle.read_answer.specs.declared.answer.ReadAnswer.TheVariants as answer
 use Rattle.read_answer.specs.Answer.{read_number, read_value}
 use Rattle.file_read.specs.Read.{Request, Reads}

@@ -4,9 +4,9 @@ use mathlib.Core.List.{List, [], ◌∷◌}
 use Prim.Native.Nat.{ℕ}
 use native.Mathlib.Omega.{arith}
 use Rattle.chunk.specs.Append.{overlay}
-use Rattle.refusal.specs.declared.verdict.Verdict.{Verdict}
+use Rattle.refusal.specs.Verdict.{Verdict}
 use Rattle.refusal.specs.declared.verdict.Verdict.TheVariants as verdict
-use Rattle.build_answer.specs.declared.answer.Answer.{Answer}
+use Rattle.build_answer.specs.Answer.{Answer}
 use Rattle.build_answer.specs.declared.answer.Answer.TheVariants.{Built, Refused}
 use Rattle.build_answer.specs.Answer.{build_number, build_values}
 use Rattle.sound_reads.specs.declared.place.Positions.{Positions}
@@ -15,7 +15,7 @@ use Rattle.words.specs.Border.{words_fault}
 use Rattle.read_rules.specs.declared.format.SoundFormat.{SoundFormat}
 use Rattle.read_rules.specs.Fault.{format_fault}
 use Rattle.read_rules.specs.Needed.{needed}
-use Rattle.read_answer.specs.declared.answer.ReadAnswer.{ReadAnswer}
+use Rattle.read_answer.specs.Answer.{ReadAnswer}
 use Rattle.read_answer.specs.declared.answer.ReadAnswer.TheVariants as answer
 use Rattle.read_answer.specs.Answer.{query_number, query_answer, read_number, read_value}
 use Rattle.file_read.specs.Read.{Reads}

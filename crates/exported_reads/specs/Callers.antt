@@ -4,7 +4,7 @@ use Rattle.std.specs.Prelude.{◌≡◌, cond, List, [], ◌∷◌, map, ℕ, eq
 use Rattle.chunk.specs.Append.{overlay}
 use Rattle.tree.specs.Gather.{Read, refused, accepted}
 use Rattle.dst.specs.Frame.{Frame}
-use Rattle.refusal.specs.declared.verdict.Verdict.TheVariants.{Accepted}
+use Rattle.std.specs.Prelude.{Ok}
 use Rattle.build_options.specs.Inputs.{Inputs}
 use Rattle.words.specs.Inputs.{inputs_of_words}
 use Rattle.words.specs.Border.{words_fault}
@@ -42,7 +42,7 @@ inputs_by e = inputs_of_words e.words e.pool e.raw e.tracks e.markers e.comments
 
 -- its words have no fault, it was accepted, and the lengths of header, sound and trailer are in the values, as many as they had room for
 pub record Accepts (e : ExportedBuild) : Type 0 where
-  pub border : words_fault e.words ≡ Accepted
+  pub border : words_fault e.words ≡ Ok tt
   pub header : ℕ
   pub sound : ℕ
   pub trailer : ℕ

@@ -3,7 +3,7 @@
 use Rattle.std.specs.Prelude.{◌≡◌, List, [], ◌∷◌, ℕ, ◌≤◌, length}
 use Rattle.chunk.specs.Append.{overlay}
 use Rattle.refusal.specs.Verdict.{or_else}
-use Rattle.refusal.specs.declared.verdict.Verdict.TheVariants.{Refused}
+use Rattle.std.specs.Prelude.{Err}
 use Rattle.words.specs.Border.{words_fault}
 use Rattle.assemble.specs.Build.{build_verdict}
 use Rattle.read_rules.specs.declared.format.SoundFormat.{SoundFormat}

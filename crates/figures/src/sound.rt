@@ -5,7 +5,6 @@ use dsd_reads::dsd_data;
 use dst::unit;
 use dst_index::index::DstIndexOffset;
 use dst_reads::dst_data;
-use sound_reads::lent::Fill;
 use sound_reads::place::Positions;
 use std::io;
 use window::window::Window;
@@ -80,14 +79,14 @@ fn read(
     print::text(rt, b" bytes lent, CRC:")?;
     print::yes_or_no(rt, crc)?;
     match dst_data::fill(out, w, crc, 1, &lengths, lent, frames, contents) {
-        Fill::Filled(v) => {
+        Some(v) => {
             print::text(rt, b"filled to ")?;
             print::number(rt, v.at as u64)?;
             print::text(rt, b", ")?;
             print::number(rt, v.skip)?;
             print::text(rt, b" to skip\n")?;
         }
-        Fill::NotLent => print::text(rt, b"not lent\n")?,
+        None => print::text(rt, b"not lent\n")?,
     }
     print::text(rt, b"buffer:")?;
     print::bytes(rt, &out[..])

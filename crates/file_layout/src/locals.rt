@@ -5,140 +5,101 @@ ghost use Rattle.tree.specs.Tree.{bytes};
 ghost use Rattle.dst_index.specs.Index.{shift_of, dsti};
 ghost use Rattle.prop.specs.Property.{property};
 ghost use Rattle.master_info.specs.Diin.{diin};
+ghost use Rattle.build_options.specs.Inputs.{inputs_of};
 ghost use Rattle.build_options.specs.Options.{effective, info_of};
 ghost use Rattle.build_options.specs.Area.{is_dst};
-ghost use Rattle.file_tree.specs.Parts.{parts_of, properties_of};
+ghost use Rattle.file_tree.specs.Parts.{parts, properties_of};
 ghost use Rattle.file_tree.specs.Sides.{is_sound, given_names, local_bytes, locals_bytes};
 ghost use Rattle.file_tree.specs.Steps.{on_side, side};
 
 use build_options::area::Area;
-use build_options::options::{Options, Settings};
+use build_options::inputs::Inputs;
+use build_options::options::{Options, Settings, effective, info_of, text_options};
 use chunk::Cursor;
-use chunk_names::{InfoChunk, LocalChunk, PropertyChunk};
-use prop::property::Properties;
+use chunk_names::LocalChunk;
+use comt::comt::comt;
+use dst_index::index::dsti;
+use master_info::diin::diin;
+use prop::property::{Properties, property};
 use prop_fields::compression::Sound;
 
 // What PROP tells.
 fn properties_of(area: Area, o: Options, s: Settings) -> Properties
     ensures { result ≡ properties_of area o s }
 {
-    let sound = area.sound;
-    let layout = area.layout;
-    let numbers = o.channel_numbers;
-    let start = s.start;
     Properties {
-        sound: sound,
-        layout: layout,
+        sound: area.sound,
+        layout: area.layout,
         channels: area.channels,
-        numbers: numbers,
-        start: start,
+        numbers: o.channel_numbers,
+        start: s.start,
         loudspeaker_configuration: o.loudspeaker_configuration,
         unspecified_loudspeaker_configuration: o.unspecified_loudspeaker_configuration,
         d1: o.d1,
     }
 }
 
-fn property_chunk(
-    c: Cursor,
-    out: &mut [u8],
-    area: Area,
-    options: Options,
-    order: [PropertyChunk; 5],
-) -> Cursor
-    ensures { Appended out.old c.at (bytes (property order (properties_of area options (effective options)))) out.new result.at }
+fn property_chunk(c: Cursor, out: &mut [u8], inputs: &Inputs<'_>) -> Cursor
+    ensures {
+        let x = inputs_of inputs.now in
+        Appended out.old c.at (bytes (property x.property_order (properties_of x.area x.options (effective x.options)))) out.new result.at }
 {
-    let s = build_options::options::effective(options);
-    let p = properties_of(area, options, s);
-    prop::property::property(c, out, order, p)
+    let settings = effective(inputs.options);
+    let properties = properties_of(inputs.area, inputs.options, settings);
+    property(c, out, inputs.property_order, properties)
 }
 
 // The index: none for DSD, or if it is switched off.
-fn index_chunk(
-    c: Cursor,
-    out: &mut [u8],
-    area: Area,
-    options: Options,
-    base: u64,
-    lengths: &[u32],
-) -> Cursor
-    ensures { Appended out.old c.at
-        (cond (is_dst area.sound && options.dst_index) (dsti options.dst_crc (moved base (shift_of options.dst_index_offset)) lengths.now) [])
+fn index_chunk(c: Cursor, out: &mut [u8], inputs: &Inputs<'_>, base: u64) -> Cursor
+    ensures {
+        let x = inputs_of inputs.now in
+        Appended out.old c.at
+        (cond (is_dst x.area.sound && x.options.dst_index) (dsti x.options.dst_crc (moved base (shift_of x.options.dst_index_offset)) x.lengths) [])
         out.new result.at }
 {
-    let sound = area.sound;
-    match sound {
-        Sound::Dsd => {
-            return c;
-        }
-        Sound::Dst => {
-            if options.dst_index {
-                let offset = options.dst_index_offset;
-                return dst_index::index::dsti(c, out, options.dst_crc, offset, base, lengths);
-            }
-            return c;
-        }
+    let options = inputs.options;
+    match inputs.area.sound {
+        Sound::Dst if options.dst_index => dsti(
+            c,
+            out,
+            options.dst_crc,
+            options.dst_index_offset,
+            base,
+            inputs.lent.lengths,
+        ),
+        _ => c,
     }
 }
 
-fn info_chunk(
-    c: Cursor,
-    out: &mut [u8],
-    area: Area,
-    options: Options,
-    order: [InfoChunk; 4],
-    pool: &[u32],
-    raw: &[u8],
-    tracks: &[u32],
-    markers: &[u32],
-) -> Cursor
-    ensures { Appended out.old c.at
-        (bytes (diin pool.now raw.now tracks.now markers.now (info_of area options (effective options)) order))
+fn info_chunk(c: Cursor, out: &mut [u8], inputs: &Inputs<'_>) -> Cursor
+    ensures {
+        let x = inputs_of inputs.now in
+        Appended out.old c.at
+        (bytes (diin x.pool x.raw x.tracks x.markers (info_of x.area x.options (effective x.options)) x.info_order))
         out.new result.at }
 {
-    let s = build_options::options::effective(options);
-    let info = build_options::options::info_of(area, options, s);
-    master_info::diin::diin(c, out, pool, raw, tracks, markers, order, info)
+    let info = info_of(inputs.area, inputs.options, effective(inputs.options));
+    diin(c, out, inputs, inputs.info_order, info)
 }
 
 // A local chunk other than the sound.
 fn local_chunk(
     c: Cursor,
     out: &mut [u8],
-    name: LocalChunk,
+    inputs: &Inputs<'_>,
     base: u64,
-    area: Area,
-    options: Options,
-    property_order: [PropertyChunk; 5],
-    info_order: [InfoChunk; 4],
-    pool: &[u32],
-    raw: &[u8],
-    tracks: &[u32],
-    markers: &[u32],
-    comments: &[u32],
-    lengths: &[u32],
+    name: LocalChunk,
 ) -> Cursor
-    ensures { Appended out.old c.at
-        (local_bytes (parts_of area options property_order info_order pool.now raw.now tracks.now markers.now comments.now lengths.now) base name)
-        out.new result.at }
+    ensures { Appended out.old c.at (local_bytes (parts (inputs_of inputs.now)) base name) out.new result.at }
 {
     match name {
-        LocalChunk::Property => {
-            return property_chunk(c, out, area, options, property_order);
-        }
-        LocalChunk::SoundData => {
-            return c;
-        }
-        LocalChunk::DstIndex => {
-            return index_chunk(c, out, area, options, base, lengths);
-        }
-        LocalChunk::EditedMasterInfo => {
-            return info_chunk(
-                c, out, area, options, info_order, pool, raw, tracks, markers,
-            );
-        }
+        LocalChunk::Property => property_chunk(c, out, inputs),
+        LocalChunk::SoundData => c,
+        LocalChunk::DstIndex => index_chunk(c, out, inputs, base),
+        LocalChunk::EditedMasterInfo => info_chunk(c, out, inputs),
         LocalChunk::Comments => {
-            let text = build_options::options::text_options(options);
-            return comt::comt::comt(c, out, pool, comments, text);
+            let text = text_options(inputs.options);
+            comt(c, out, inputs.lent.pools.text, inputs.lent.comments, text)
         }
     }
 }
@@ -147,21 +108,11 @@ fn is_sound(name: LocalChunk) -> bool
     ensures { result ≡ is_sound name }
 {
     match name {
-        LocalChunk::Property => {
-            return false;
-        }
-        LocalChunk::SoundData => {
-            return true;
-        }
-        LocalChunk::DstIndex => {
-            return false;
-        }
-        LocalChunk::EditedMasterInfo => {
-            return false;
-        }
-        LocalChunk::Comments => {
-            return false;
-        }
+        LocalChunk::SoundData => true,
+        LocalChunk::Property
+        | LocalChunk::DstIndex
+        | LocalChunk::EditedMasterInfo
+        | LocalChunk::Comments => false,
     }
 }
 
@@ -169,62 +120,30 @@ fn is_sound(name: LocalChunk) -> bool
 fn on_side(behind: bool, passed: bool, sound: bool) -> bool
     ensures { result ≡ on_side behind passed sound }
 {
-    if behind {
-        return passed;
-    }
-    !(passed | sound)
+    if behind { passed } else { !(passed | sound) }
 }
 
 // The local chunks before the sound or, if `behind`, those behind it.
 pub(crate) fn local_chunks(
     c: Cursor,
     out: &mut [u8],
-    behind: bool,
-    order: [LocalChunk; 5],
-    count: u32,
+    inputs: &Inputs<'_>,
     base: u64,
-    area: Area,
-    options: Options,
-    property_order: [PropertyChunk; 5],
-    info_order: [InfoChunk; 4],
-    pool: &[u32],
-    raw: &[u8],
-    tracks: &[u32],
-    markers: &[u32],
-    comments: &[u32],
-    lengths: &[u32],
+    behind: bool,
 ) -> Cursor
-    ensures { Appended out.old c.at
-        (locals_bytes (parts_of area options property_order info_order pool.now raw.now tracks.now markers.now comments.now lengths.now) base (side behind (given_names order count)))
-        out.new result.at }
+    ensures {
+        let x = inputs_of inputs.now in
+        Appended out.old c.at (locals_bytes (parts x) base (side behind (given_names x.local_order x.local_count))) out.new result.at }
 {
     let mut c = c;
-    let n = refusal::orders::at_most(count, 5);
     let mut passed = false; // whether the sound was met
-    let mut i = 0;
-    while i < n {
-        let name = order[i];
-        let sound = is_sound(name);
+    let order = inputs.local_order;
+    for name in &order[..inputs.local_count.min(5) as usize] {
+        let sound = is_sound(*name);
         if on_side(behind, passed, sound) {
-            c = local_chunk(
-                c,
-                out,
-                name,
-                base,
-                area,
-                options,
-                property_order,
-                info_order,
-                pool,
-                raw,
-                tracks,
-                markers,
-                comments,
-                lengths,
-            );
+            c = local_chunk(c, out, inputs, base, *name);
         }
-        passed = passed | sound;
-        i += 1;
+        passed |= sound;
     }
     c
 }

@@ -1,5 +1,5 @@
 // The sound chunk up to the first sound byte, and the sound's length.
-ghost use Rattle.std.specs.Prelude.{◌≡◌, ◌*◌, ◌-◌, ◌^◌, min};
+ghost use Rattle.std.specs.Prelude.{◌≡◌, ◌*◌, ◌^◌, ◌-◌, min};
 ghost use Rattle.chunk.specs.Append.{Appended};
 ghost use Rattle.dst.specs.Frame.{frame_bytes};
 ghost use Rattle.build_options.specs.Area.{area_positions};
@@ -8,27 +8,25 @@ ghost use Rattle.file_tree.specs.Sized.{sound_head_sized};
 
 use build_options::area::Area;
 use chunk::Cursor;
+use dst::frame::frame_bytes;
+use dst::head::head_sized;
+use dst::unit::units;
 use prop_fields::compression::Sound;
 
 // The length of DSD sound: so many frames.
 fn dsd_size(area: Area) -> u64
     ensures { result ≡ area_positions area * frame_bytes area.channels }
 {
-    area.positions() as u64 * dst::frame::frame_bytes(area.channels) as u64
+    area.positions() as u64 * frame_bytes(area.channels) as u64
 }
 
 // The sound's length, at most the largest u64.
 pub fn sound_size(area: Area, crc: bool, lengths: &[u32]) -> u64
     ensures { result ≡ min (sound_size area.sound area crc lengths.now) (2 ^ 64 - 1) }
 {
-    let sound = area.sound;
-    match sound {
-        Sound::Dsd => {
-            return dsd_size(area);
-        }
-        Sound::Dst => {
-            return dst::unit::units(crc, lengths);
-        }
+    match area.sound {
+        Sound::Dsd => dsd_size(area),
+        Sound::Dst => units(crc, lengths),
     }
 }
 
@@ -37,11 +35,7 @@ pub fn sound_head_sized(c: Cursor, out: &mut [u8], sound: Sound, size: u64, fram
     ensures { Appended out.old c.at (sound_head_sized sound size frames) out.new result.at }
 {
     match sound {
-        Sound::Dsd => {
-            return c.chunk_head(out, *b"DSD ", size);
-        }
-        Sound::Dst => {
-            return dst::head::head_sized(c, out, size, frames);
-        }
+        Sound::Dsd => c.chunk_head(out, *b"DSD ", size),
+        Sound::Dst => head_sized(c, out, size, frames),
     }
 }

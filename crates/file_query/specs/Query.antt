@@ -4,7 +4,7 @@ use Rattle.std.specs.Prelude.{ℕ, List}
 use Rattle.read_rules.specs.declared.format.SoundFormat.{SoundFormat}
 use Rattle.read_rules.specs.Fault.{format_fault}
 use Rattle.read_rules.specs.Needed.{needed}
-use Rattle.read_answer.specs.declared.answer.QueryAnswer.{QueryAnswer}
+use Rattle.read_answer.specs.Answer.{QueryAnswer}
 use Rattle.read_answer.specs.Answer.{query_answer}
 
 -- of a file whose header and trailer have so many bytes, for a read of `room` bytes from the file's byte `offset` on

@@ -12,8 +12,7 @@ use Rattle.prop_fields.specs.declared.compression.Sound.TheVariants.{Dsd, Dst}
 use Rattle.window.specs.declared.window.Window.{Window}
 use Rattle.window.specs.Window.{Wrote}
 use Rattle.sound_reads.specs.declared.place.Positions.{Positions}
-use Rattle.sound_reads.specs.declared.lent.Fill.{Fill}
-use Rattle.sound_reads.specs.declared.lent.Fill.TheVariants.{Filled, NotLent}
+use Rattle.std.specs.Prelude.{Option, Some, None}
 use Rattle.sound_reads.specs.Fill.{Filling}
 use Rattle.sound_reads.specs.Positions.{number, between}
 use Rattle.sound_reads.specs.Lent.{needed_at, is_lent, frames_with, contents_with}
@@ -31,11 +30,11 @@ pub record Put (lent : Bool) (bytes : List ℕ) (w : Window) (out last : List �
   pub right : lent ≡ true
   pub wrote : Wrote bytes w out last v
 
-pub untouched : (lent : Bool) {bytes : List ℕ} {w : Window} {out last : List ℕ} {r : Fill} → Filling lent bytes w out last r → r ≡ NotLent → Untouched lent out last
+pub untouched : (lent : Bool) {bytes : List ℕ} {w : Window} {out last : List ℕ} {r : Option Window} → Filling lent bytes w out last r → r ≡ None → Untouched lent out last
 untouched true q e = let z : ◌≡◌ {A = ℕ} 0 1 = cc (e, q.answer) in absurd (omega arith)
 untouched false q e = record { wrong = refl; same = q.buffer }
 
-pub put : (lent : Bool) {bytes : List ℕ} {w v : Window} {out last : List ℕ} {r : Fill} → Filling lent bytes w out last r → r ≡ Filled v → Put lent bytes w out last v
+pub put : (lent : Bool) {bytes : List ℕ} {w v : Window} {out last : List ℕ} {r : Option Window} → Filling lent bytes w out last r → r ≡ Some v → Put lent bytes w out last v
 put true q e = record { right = refl; wrote = record { filled = q.buffer; place = cc (e, q.answer) } }
 put false q e = let z : ◌≡◌ {A = ℕ} 0 1 = cc (e, q.answer) in absurd (omega arith)
 
@@ -52,7 +51,7 @@ none_lent false b c e = let z : ◌≡◌ {A = ℕ} 0 1 = cc (e) in absurd (omeg
 
 module _ (f : SoundFormat) (lengths lent frames contents : List ℕ) (w : Window) (out : List ℕ) where
   -- the sound of either kind, filled after what w skips of it
-  abbrev pub FillsSound : List ℕ → Fill → Type 0
+  abbrev pub FillsSound : List ℕ → Option Window → Type 0
   FillsSound last r =
       Filling (is_lent_for f lengths (needed_at (unit_sizes f lengths) w out) lent frames contents)
       (sound_with f lengths (needed_at (unit_sizes f lengths) w out) frames contents)
@@ -66,16 +65,16 @@ module _ (f : SoundFormat) (lengths lent frames contents : List ℕ) (w : Window
   counted = eqb (frame_bytes f.channels * number wanted) (length contents)
 
   -- DSD, where lengths or DST bytes are lent
-  pub dsd-refused : f.sound ≡ Dsd → not (eqb (length lent) 0) || not (eqb (length frames) 0) ≡ true → FillsSound out NotLent
+  pub dsd-refused : f.sound ≡ Dsd → not (eqb (length lent) 0) || not (eqb (length frames) 0) ≡ true → FillsSound out None
   dsd-refused e h = rw (e, some-lent (eqb (length lent) 0) (eqb (length frames) 0) counted h) (record { answer = refl; buffer = refl })
 
   -- DSD, where neither is
-  pub dsd-filled : {last : List ℕ} {r : Fill} → f.sound ≡ Dsd → not (eqb (length lent) 0) || not (eqb (length frames) 0) ≡ false
+  pub dsd-filled : {last : List ℕ} {r : Option Window} → f.sound ≡ Dsd → not (eqb (length lent) 0) || not (eqb (length frames) 0) ≡ false
       → Filling counted (dsd_sound (contents_with (frame_bytes f.channels) wanted f.positions contents)) w out last r → FillsSound last r
   dsd-filled e h q = rw (e, none_lent (eqb (length lent) 0) (eqb (length frames) 0) counted h) q
 
   -- DST
-  pub dst-filled : {last : List ℕ} {r : Fill} → f.sound ≡ Dst
+  pub dst-filled : {last : List ℕ} {r : Option Window} → f.sound ≡ Dst
       → Filling (is_lent (plain_bytes f.crc f.channels) (between (needed_at (sizes f.crc lengths) w out) lengths) lent frames contents)
       (sound f.crc (frames_with (plain_bytes f.crc f.channels) (needed_at (sizes f.crc lengths) w out) lengths frames contents))
       w out last r

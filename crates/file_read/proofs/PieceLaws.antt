@@ -7,8 +7,7 @@ use lib.ListN.{length}
 use Rattle.window.specs.declared.window.Window.{Window}
 use Rattle.window.specs.Window.{after, Wrote}
 use Rattle.window.proofs.WindowLaws.{◌then◌, before}
-use Rattle.sound_reads.specs.declared.lent.Fill.{Fill}
-use Rattle.sound_reads.specs.declared.lent.Fill.TheVariants.{Filled, NotLent}
+use Rattle.std.specs.Prelude.{Option, Some, None}
 use Rattle.sound_reads.specs.Positions.{positions_for}
 use Rattle.sound_reads.specs.Lent.{needed_at}
 use Rattle.read_rules.specs.Format.{unit_sizes}
@@ -34,17 +33,17 @@ module _ (q : Request) (out : List ℕ) where
       ap (λ (n : ℕ). positions_for (unit_sizes q.format q.lengths) (q.offset - length q.header) n) e
 
   -- what `fill` promises at a place
-  abbrev Sounds : Window → List ℕ → Fill → Type 0
+  abbrev Sounds : Window → List ℕ → Option Window → Type 0
   Sounds w last r = FillsSound q.format q.lengths q.lent q.frames q.contents w out last r
 
   -- 43: nothing is written
-  pub not-lent : {v : Window} {mid : List ℕ} {r : Fill} → v ≡ behind → Sounds v mid r → r ≡ NotLent → Reading (lent_fault q (length out)) q out mid (answer.Refused 43 0)
+  pub not-lent : {v : Window} {mid : List ℕ} {r : Option Window} → v ≡ behind → Sounds v mid r → r ≡ None → Reading (lent_fault q (length out)) q out mid (answer.Refused 43 0)
   not-lent {v} {mid} {r} e s told =
       let u = untouched _ (rw (e, needed-behind) at s) told in
       rw u.wrong (record { answer = refl; buffer = u.same })
 
   -- the three pieces, of which the header is put last
-  pub laid : {v w u t : Window} {mid late last : List ℕ} {r : Fill} → v ≡ behind → Sounds v mid r → r ≡ Filled w → Wrote q.trailer w mid late u
+  pub laid : {v w u t : Window} {mid late last : List ℕ} {r : Option Window} → v ≡ behind → Sounds v mid r → r ≡ Some w → Wrote q.trailer w mid late u
       → Wrote q.header begin late last t → Reading (lent_fault q (length out)) q out last (answer.Filled u.at)
   unfolding after
   laid {v} {w} {u} {t} {mid} {late} {last} {r} e s told trailer header =

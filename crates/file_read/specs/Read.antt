@@ -3,14 +3,14 @@
 -- tested first"). Assumes nothing.
 use Rattle.std.specs.Prelude.{◌≡◌, not, List, ◌++◌, ℕ, ◌-◌, min, length}
 use Rattle.refusal.specs.Verdict.{refuse_if, or_else}
-use Rattle.refusal.specs.declared.verdict.Verdict.{Verdict}
-use Rattle.refusal.specs.declared.verdict.Verdict.TheVariants.{Accepted, Refused}
+use Rattle.refusal.specs.Verdict.{Verdict}
+use Rattle.std.specs.Prelude.{Ok, Err}
 use Rattle.window.specs.Window.{shown}
 use Rattle.sound_reads.specs.declared.place.Positions.{Positions}
 use Rattle.read_rules.specs.declared.format.SoundFormat.{SoundFormat}
 use Rattle.read_rules.specs.Fault.{format_fault}
 use Rattle.read_rules.specs.Needed.{needed}
-use Rattle.read_answer.specs.declared.answer.ReadAnswer.{ReadAnswer}
+use Rattle.read_answer.specs.Answer.{ReadAnswer}
 use Rattle.read_answer.specs.Answer.{read_answer}
 use Rattle.file_read.specs.Lent.{is_lent_for, sound_with}
 
@@ -58,7 +58,7 @@ module _ (q : Request) (room : ℕ) where
 
 -- the buffer in the end: the file's bytes from the offset on, as many as fit, and the rest as it was; all as it was, if the read is refused
 abbrev pub buffer_by : Verdict → List ℕ → ℕ → List ℕ → List ℕ
-buffer_by Accepted file offset out = shown file (record { at = 0; skip = offset }) out
+buffer_by (Ok tt) file offset out = shown file (record { at = 0; skip = offset }) out
 buffer_by (Refused number detail) file offset out = out
 
 -- the outcome under a verdict

@@ -10,7 +10,6 @@ use prop_fields::compression::Sound;
 use read_answer::answer::ReadAnswer;
 use read_rules::format::SoundFormat;
 use refusal::verdict::Verdict;
-use sound_reads::lent::Fill;
 use window::window::Window;
 
 // Fills the rest of `out` with the sound, after what w skips of it.
@@ -22,7 +21,7 @@ fn fill(
     lent: &[u32],
     frames: &[u8],
     contents: &[u8],
-) -> Fill
+) -> Option<Window>
     ensures { Filling
         (is_lent_for format lengths.now (needed_at (unit_sizes format lengths.now) w out.old) lent.now frames.now contents.now)
         (sound_with format lengths.now (needed_at (unit_sizes format lengths.now) w out.old) frames.now contents.now)
@@ -32,7 +31,7 @@ fn fill(
     match sound {
         Sound::Dsd => {
             if (lent.len() != 0) | (frames.len() != 0) {
-                return Fill::NotLent;
+                return None;
             }
             return dsd_reads::dsd_data::fill(out, w, format.channels, format.positions, contents);
         }
@@ -74,13 +73,13 @@ fn pieces(
     let behind = begin.past(header.len() as u64, out.len());
     let sound = fill(out, behind, format, lengths, lent, frames, contents);
     match sound {
-        Fill::NotLent => {
+        None => {
             return ReadAnswer::Refused {
                 number: 43,
                 detail: 0,
             };
         }
-        Fill::Filled(w) => {
+        Some(w) => {
             let end = w.put(out, trailer);
             begin.put(out, header);
             return ReadAnswer::Filled(end.at as u64);

@@ -12,7 +12,7 @@ use Rattle.chunk.specs.Rows.{rows}
 use Rattle.tree.specs.Value.{inner, value}
 use Rattle.markers.proofs.AllLaws.{All, rows_all}
 use Rattle.track_markers.proofs.ProgramLaws.{eqb_comm}
-use Rattle.refusal.specs.declared.verdict.Verdict.TheVariants.{Accepted}
+use Rattle.std.specs.Prelude.{Ok}
 use Rattle.refusal.proofs.VerdictLaws.{neither}
 use Rattle.build_options.specs.Inputs.{Inputs}
 use Rattle.checks.specs.InputVerdict.{verdict}
@@ -50,6 +50,6 @@ module _ (name : Name) (free : reserved name ≡ false) where
 abbrev pub Free : List ℕ → Type 0
 Free row = reserved (be 4 (get_or row 0 0)) ≡ false
 
-pub callers_free : (x : Inputs) → verdict x ≡ Accepted → All Free (rows 3 x.callers)
+pub callers_free : (x : Inputs) → verdict x ≡ Ok tt → All Free (rows 3 x.callers)
 unfolding rows
 callers_free x ok = rw map-id at (rows_all Free (λ row. row) 3 (length x.callers / 3) x.callers (callers-named x ok))

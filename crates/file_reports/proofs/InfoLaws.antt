@@ -14,8 +14,8 @@ use Rattle.texts.specs.Text.{text_bytes, is_written}
 use Rattle.texts.specs.declared.text.TextOptions.{TextOptions}
 use Rattle.texts.proofs.TextLaws.{extent_short}
 use Rattle.diin_texts.specs.DiinText.{given_text_chunk, diin_text_chunk}
-use Rattle.diin_texts.specs.declared.diin_text.Text.{Text}
-use Rattle.diin_texts.specs.declared.diin_text.Text.TheVariants.{Absent, Given}
+use Rattle.diin_texts.specs.DiinText.{Text}
+use Rattle.std.specs.Prelude.{None, Some}
 use Rattle.diin_texts.proofs.ValueLaws.{diin-text-value}
 use Rattle.markers.specs.declared.marker.Marker.{Marker}
 use Rattle.markers.specs.declared.marker.Marking.{Marking}
@@ -32,8 +32,8 @@ use Rattle.file_reports.proofs.ReportLaws.{follows, Tells, stop_tells, leaf_tell
 module _ (known : Name → Name → Bool) where
   emid_tells : (raw : List ℕ) (id : Text) → Tells known (ascii "DIIN") (emid raw id) (emid raw id)
   unfolding emid value same
-  emid_tells raw Absent = stop_tells
-  emid_tells raw (Given e) = leaf_tells refl stop_tells
+  emid_tells raw None = stop_tells
+  emid_tells raw (Some e) = leaf_tells refl stop_tells
 
   mark_tells : (pool raw : List ℕ) (how : Marking) (m : Marker) → ShortText longest_text m.text
       → Tells known (ascii "DIIN") (mark pool raw how m) (mark_told pool raw how m)
@@ -46,8 +46,8 @@ module _ (known : Name → Name → Bool) where
   text_tells : (name : Name) → (same name (ascii "DIAR") || same name (ascii "DITI")) ≡ true → (pool : List ℕ) (t : Text) (o : TextOptions)
       → ShortGiven longest_text t → Tells known (ascii "DIIN") (diin_text_chunk name pool t o) (text_told name pool t o)
   unfolding diin_text_chunk given_text_chunk text_told converted_told
-  text_tells name is pool Absent o h = stop_tells
-  text_tells name is pool (Given e) o h =
+  text_tells name is pool None o h = stop_tells
+  text_tells name is pool (Some e) o h =
       let text = text_bytes o.rule (part pool e) in
       let short : length text < 256 ^ 4 = omega (arith, extent_short o.rule pool e) in
       if-tells (is_written o (length text)) (λ written. leaf_tells (diin-text-value name is text o short) stop_tells)

@@ -13,8 +13,8 @@ use Rattle.chunk_names.specs.declared.InfoChunk.TheVariants.{EditedMasterId, Mar
 use Rattle.texts.specs.Extent.{part}
 use Rattle.texts.specs.Text as texts
 use Rattle.texts.specs.declared.text.TextOptions.{TextOptions}
-use Rattle.diin_texts.specs.declared.diin_text.Text.{Text}
-use Rattle.diin_texts.specs.declared.diin_text.Text.TheVariants.{Absent, Given}
+use Rattle.diin_texts.specs.DiinText.{Text}
+use Rattle.std.specs.Prelude.{None, Some}
 use Rattle.diin_texts.specs.DiinText.{diin_text_value}
 use Rattle.comt.specs.Comment.{written_comments, has_comt, comt_value}
 use Rattle.prop.specs.declared.property.Properties.{Properties}
@@ -57,15 +57,15 @@ module _ (p n : Name) (known : Name → Name → Bool) where
   module _ (away : same (ascii "DIIN") p ≡ false) where
     in_text : (name : Name) (pool : List ℕ) (t : Text) (o : TextOptions) → found p n known (ascii "DIIN") (text_told name pool t o) ≡ []
     unfolding text_told converted_told
-    in_text name pool Absent o = found-stop p n known (ascii "DIIN")
-    in_text name pool (Given t) o =
+    in_text name pool None o = found-stop p n known (ascii "DIIN")
+    in_text name pool (Some t) o =
         let text = texts.text_bytes o.rule (part pool t) in
         missed_if p n known (ascii "DIIN") (texts.is_written o (length text)) _ (missed_leaf p n known (ascii "DIIN") name (diin_text_value text) (rw away))
 
     in_emid : (raw : List ℕ) (t : Text) → found p n known (ascii "DIIN") (emid raw t) ≡ []
     unfolding emid
-    in_emid raw Absent = found-stop p n known (ascii "DIIN")
-    in_emid raw (Given t) = missed_leaf p n known (ascii "DIIN") (ascii "EMID") _ (rw away)
+    in_emid raw None = found-stop p n known (ascii "DIIN")
+    in_emid raw (Some t) = missed_leaf p n known (ascii "DIIN") (ascii "EMID") _ (rw away)
 
     in_info : (pool raw tracks custom : List ℕ) (i : Info) (c : InfoChunk) → found p n known (ascii "DIIN") (info_told pool raw tracks custom i c) ≡ []
     unfolding info_told mark_told

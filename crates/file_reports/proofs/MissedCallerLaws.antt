@@ -8,7 +8,7 @@ use lib.ListN.{length, get_or}
 use Rattle.chunk_names.specs.Name.{Name, ascii, reserved}
 use Rattle.chunk.specs.Rows.{rows}
 use Rattle.chunk.proofs.RowsLaws.{length-rows, get_rows}
-use Rattle.refusal.specs.declared.verdict.Verdict.TheVariants.{Accepted}
+use Rattle.std.specs.Prelude.{Ok}
 use Rattle.faults.specs.Caller.{caller_name}
 use Rattle.caller_chunks.specs.Caller.{caller_chunk, caller_chunks}
 use Rattle.build_options.specs.Inputs.{Inputs}
@@ -18,7 +18,7 @@ use Rattle.file_reports.proofs.FoundLaws.{sought, found, found-each}
 use Rattle.file_reports.proofs.MissedLaws.{missed_leaf}
 use Rattle.file_reports.proofs.OnceLaws.{none-at}
 
-module _ (x : Inputs) (ok : verdict x ≡ Accepted) (known : Name → Name → Bool) where
+module _ (x : Inputs) (ok : verdict x ≡ Ok tt) (known : Name → Name → Bool) where
   pub missed_callers : (p n : Name) → ((name : Name) → reserved name ≡ false → sought p n (ascii "FRM8") name ≡ false)
       → found p n known (ascii "FRM8") (caller_chunks x.raw x.callers) ≡ []
   unfolding caller_chunks caller_chunk

@@ -20,7 +20,7 @@ use Rattle.prop_fields.specs.declared.compression.Sound.{Sound}
 use Rattle.prop_fields.specs.declared.compression.Sound.TheVariants.{Dsd, Dst}
 use Rattle.prop.specs.Property.{id_of, is_property_written}
 use Rattle.refusal.specs.Orders.{property_rank, local_rank, times}
-use Rattle.refusal.specs.declared.verdict.Verdict.TheVariants.{Accepted}
+use Rattle.std.specs.Prelude.{Ok}
 use Rattle.refusal.proofs.VerdictLaws.{neither}
 use Rattle.caller_chunks.specs.Caller.{caller_chunks}
 use Rattle.build_options.specs.Inputs.{Inputs}
@@ -42,7 +42,7 @@ use Rattle.file_reports.proofs.LocalLaws.{local_name, missed_local}
 use Rattle.file_reports.proofs.MissedCallerLaws.{missed_callers}
 use Rattle.file_reports.proofs.WithinLaws.{Within, in_property, is-index, is-dsd, in_dst, same_rank}
 
-module _ (x : Inputs) (ok : verdict x ≡ Accepted) (known : Name → Name → Bool) (fs : List Frame) where
+module _ (x : Inputs) (ok : verdict x ≡ Ok tt) (known : Name → Name → Bool) (fs : List Frame) where
   -- what is reported of a local chunk
   abbrev reported : Name → Name → LocalChunk → List (List ℕ)
   reported p n c = found p n known (ascii "FRM8") (local_told (parts x) (place x) fs c)

@@ -24,7 +24,7 @@ use Rattle.prop_fields.specs.declared.compression.Sound.TheVariants.{Dsd, Dst}
 use Rattle.prop.proofs.ReadLaws.{property_shaped}
 use Rattle.markers.proofs.AllLaws.{All}
 use Rattle.master_info.proofs.ReadLaws.{diin_shaped}
-use Rattle.refusal.specs.declared.verdict.Verdict.TheVariants.{Accepted}
+use Rattle.std.specs.Prelude.{Ok}
 use Rattle.caller_chunks.specs.Caller.{caller_chunk, caller_chunks}
 use Rattle.build_options.specs.Inputs.{Inputs}
 use Rattle.checks.specs.InputVerdict.{verdict}
@@ -73,7 +73,7 @@ module _ (known : Name → Name → Bool) where
   unfolding caller_chunk
   caller_shaped raw row free = (length-be 4 (get_or row 0 0), free_inner (be 4 (get_or row 0 0)) free, tt)
 
-module _ (x : Inputs) (ok : verdict x ≡ Accepted) (known : Name → Name → Bool) (fs : List Frame) where
+module _ (x : Inputs) (ok : verdict x ≡ Ok tt) (known : Name → Name → Bool) (fs : List Frame) where
   pub file_shaped : Shaped (dsdiff known) [] (file_of x fs)
   unfolding file_of form_chunks caller_chunks inner same
   file_shaped =

@@ -22,7 +22,7 @@ use Rattle.prop_fields.specs.declared.compression.Sound.{Sound}
 use Rattle.prop_fields.specs.declared.compression.Sound.TheVariants.{Dsd, Dst}
 use Rattle.prop.specs.Property.{property, property_chunk}
 use Rattle.master_info.specs.Diin.{has_diin, diin}
-use Rattle.refusal.specs.declared.verdict.Verdict.TheVariants.{Accepted}
+use Rattle.std.specs.Prelude.{Ok}
 use Rattle.caller_chunks.specs.Caller.{caller_chunk, caller_chunks}
 use Rattle.build_options.specs.Inputs.{Inputs}
 use Rattle.checks.specs.InputVerdict.{verdict}
@@ -56,7 +56,7 @@ module _ (known : Name → Name → Bool) where
   unfolding caller_chunk
   caller_tells raw row free = leaf_tells (free_value (be 4 (get_or row 0 0)) free _) stop_tells
 
-module _ (x : Inputs) (ok : verdict x ≡ Accepted) (known : Name → Name → Bool) (fs : List Frame) where
+module _ (x : Inputs) (ok : verdict x ≡ Ok tt) (known : Name → Name → Bool) (fs : List Frame) where
   local_tells : (c : LocalChunk) → Tells known (ascii "FRM8") (local_chunk (parts x) (place x) fs c) (local_told (parts x) (place x) fs c)
   unfolding local_chunk local_told property diin comt_chunk value same
   local_tells Property =

@@ -18,8 +18,8 @@ use Rattle.frame_time.specs.Time.{time_of, time_bytes}
 use Rattle.texts.specs.Extent.{part}
 use Rattle.texts.specs.Text.{text_bytes, is_written}
 use Rattle.texts.specs.declared.text.TextOptions.{TextOptions}
-use Rattle.diin_texts.specs.declared.diin_text.Text.{Text}
-use Rattle.diin_texts.specs.declared.diin_text.Text.TheVariants.{Absent, Given}
+use Rattle.diin_texts.specs.DiinText.{Text}
+use Rattle.std.specs.Prelude.{None, Some}
 use Rattle.diin_texts.specs.DiinText.{diin_text_value}
 use Rattle.comt.specs.Comment.{written_comments, has_comt, comt_value}
 use Rattle.dst.specs.Frame.{Frame}
@@ -71,8 +71,8 @@ unfoldable pub converted_told : Name → List ℕ → TextOptions → Chunks
 converted_told name text o = cond (is_written o (length text)) (leaf name (diin_text_value text) stop) stop
 
 unfoldable pub text_told : Name → List ℕ → Text → TextOptions → Chunks
-text_told name pool Absent o = stop
-text_told name pool (Given text) o = converted_told name (text_bytes o.rule (part pool text)) o
+text_told name pool None o = stop
+text_told name pool (Some text) o = converted_told name (text_bytes o.rule (part pool text)) o
 
 -- a chunk of DIIN, or the run of MARK chunks
 unfoldable pub info_told : List ℕ → List ℕ → List ℕ → List ℕ → Info → InfoChunk → Chunks

@@ -22,6 +22,7 @@ pub struct FrameTime {
 }
 
 // The time of frame g. Of hours that pass a u16, the low 16 bits.
+#[tactic(auto, unfolding(crate::specs::Time::time_of))]
 pub fn time(g: u64) -> FrameTime
     ensures { result ≡ time_of g }
 {
@@ -37,8 +38,8 @@ pub fn time(g: u64) -> FrameTime
 pub fn time_bytes(c: Cursor, out: &mut [u8], t: FrameTime) -> Cursor
     ensures { Appended out.old c.at (time_bytes t) out.new result.at }
 {
-    let c = c.be16(out, t.hours);
-    let c = c.byte(out, t.minutes);
-    let c = c.byte(out, t.seconds);
-    c.be32(out, t.samples)
+    c.be16(out, t.hours)
+        .byte(out, t.minutes)
+        .byte(out, t.seconds)
+        .be32(out, t.samples)
 }

@@ -2,74 +2,26 @@
 ghost use Rattle.build_options.specs.Inputs.{inputs_of};
 ghost use Rattle.header_trailer.specs.Fill.{FilledAround};
 
-use build_options::area::Area;
-use build_options::options::Options;
+use build_options::inputs::Inputs;
 use chunk::Cursor;
-use chunk_names::{InfoChunk, LocalChunk, PropertyChunk};
+use file_layout::sides::{back, front_sized};
+use file_layout::sound::sound_size;
 
 // Header and trailer around the sound, whose length it works out and answers, where FRM8's data has `rest` bytes beside the sound and the sound begins
 // at `base`.
 pub fn fill_around(
     rest: u64,
     base: u64,
-    area: Area,
-    options: Options,
-    property_order: [PropertyChunk; 5],
-    info_order: [InfoChunk; 4],
-    local_order: [LocalChunk; 5],
-    local_count: u32,
-    pool: &[u32],
-    raw: &[u8],
-    tracks: &[u32],
-    markers: &[u32],
-    comments: &[u32],
-    callers: &[u32],
-    lengths: &[u32],
+    inputs: &Inputs<'_>,
     head: &mut [u8],
     tail: &mut [u8],
 ) -> u64
-    ensures { FilledAround (inputs_of area options property_order info_order local_order local_count pool.now raw.now tracks.now markers.now comments.now callers.now lengths.now) rest base
-        head.old head.new tail.old tail.new result }
+    ensures { FilledAround (inputs_of inputs.now) rest base head.old head.new tail.old tail.new result }
 {
-    let sound = file_layout::sound::sound_size(area, options.dst_crc, lengths);
-    let size = dst::unit::plus(rest, sound);
+    let sound = sound_size(inputs.area, inputs.options.dst_crc, inputs.lent.lengths);
     let start = Cursor::new();
-    let c = start.chunk_head(head, *b"FRM8", size);
-    file_layout::sides::front_sized(
-        c,
-        head,
-        sound,
-        base,
-        area,
-        options,
-        property_order,
-        info_order,
-        local_order,
-        local_count,
-        pool,
-        raw,
-        tracks,
-        markers,
-        comments,
-        lengths,
-    );
-    file_layout::sides::back(
-        start,
-        tail,
-        base,
-        area,
-        options,
-        property_order,
-        info_order,
-        local_order,
-        local_count,
-        pool,
-        raw,
-        tracks,
-        markers,
-        comments,
-        callers,
-        lengths,
-    );
+    let c = start.chunk_head(head, *b"FRM8", rest.saturating_add(sound));
+    front_sized(c, head, inputs, sound, base);
+    back(start, tail, inputs, base);
     sound
 }

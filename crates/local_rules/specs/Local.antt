@@ -7,10 +7,10 @@ use Rattle.chunk_names.specs.declared.LocalChunk.{LocalChunk}
 use Rattle.chunk_names.specs.declared.LocalChunk.TheVariants.{Property, SoundData, DstIndex, EditedMasterInfo, Comments}
 use Rattle.master_info.specs.Diin.{has_diin}
 use Rattle.master_info.specs.declared.diin.Info.{Info}
-use Rattle.refusal.specs.Verdict.{refuse_if, first_of}
+use Rattle.refusal.specs.Verdict.{Verdict, refuse_if, first_of}
 use Rattle.refusal.specs.Below.{any}
 use Rattle.refusal.specs.Orders.{local_rank, times}
-use Rattle.refusal.specs.declared.verdict.Verdict.{Verdict}
+use Rattle.refusal.specs.declared.verdict.Refusal.TheVariants as refused
 
 -- a name is there twice
 abbrev pub repeats : List ℕ → Bool
@@ -43,7 +43,7 @@ module _ (pool raw tracks markers comments : List ℕ) (order : List InfoChunk) 
   local_faults local count =
       let ranks = take (min count 5) (map local_rank local) in
       first_of
-      (refuse_if (ltb 5 count || repeats ranks) 37 0
-      ∷ refuse_if (lacks_any ranks) 38 0
-      ∷ refuse_if (sound_before_prop ranks) 39 0
+      (refuse_if (ltb 5 count || repeats ranks) refused.LocalOrderRepeats
+      ∷ refuse_if (lacks_any ranks) refused.LocalOrderLacks
+      ∷ refuse_if (sound_before_prop ranks) refused.SoundBeforeProperty
       ∷ [])

@@ -1,2 +1,3 @@
 pub mod MarkerLaws
+pub mod CustomLaws
 pub mod AllLaws

@@ -1,5 +1,5 @@
 -- The laws of MARK. Assumes nothing.
-use mathlib.Core.Path.{◌≡◌, refl}
+use mathlib.Core.Path.{◌≡◌}
 use mathlib.Core.Bool.{Bool, true, false, cond}
 use mathlib.Core.List.{List, []}
 use Prim.Native.Nat.{ℕ, ◌+◌, ◌-◌, ◌≤◌, min}
@@ -13,26 +13,9 @@ use Rattle.texts.specs.Extent.{part}
 use Rattle.texts.specs.Text.{text_pad}
 use Rattle.texts.specs.declared.extent.Extent.{Extent}
 use Rattle.texts.specs.declared.text.TextOptions.{TextOptions}
-use Rattle.markers.specs.Marker.{kind_number, kind_flags, mark_head, mark_data}
-use Rattle.markers.specs.declared.marker.MarkerKind.{MarkerKind}
-use Rattle.markers.specs.declared.marker.MarkerKind.TheVariants.{TrackStart, TrackStop, ProgramStart, Index}
+use Rattle.markers.specs.Marker.{mark_head, mark_data}
 use Rattle.markers.specs.declared.marker.Marker.{Marker}
 use Rattle.markers.specs.declared.marker.Marking.{Marking}
-
--- flags of the kind whose number is 0, and of the others
-pub flags_start : (k : MarkerKind) (flags : ℕ) → kind_number k ≡ 0 → kind_flags k flags ≡ flags
-unfolding kind_number kind_flags
-flags_start TrackStart flags zero = refl
-flags_start TrackStop flags zero = absurd (omega (arith, zero))
-flags_start ProgramStart flags zero = absurd (omega (arith, zero))
-flags_start Index flags zero = absurd (omega (arith, zero))
-
-pub flags_other : (k : MarkerKind) (flags : ℕ) → (kind_number k ≡ 0 → ⊥) → kind_flags k flags ≡ 0
-unfolding kind_number kind_flags
-flags_other TrackStart flags other = absurd (other refl)
-flags_other TrackStop flags other = refl
-flags_other ProgramStart flags other = refl
-flags_other Index flags other = refl
 
 -- a pad that may be counted is at most one byte
 pub text-pad-short : (o : TextOptions) (n : ℕ) → length (text_pad o n) ≤ 1

@@ -17,14 +17,14 @@ use Rattle.markers.specs.declared.marker.MarkerText.TheVariants.{Empty, Bytes, T
 use Rattle.markers.specs.declared.marker.Marker.{Marker}
 use Rattle.markers.specs.declared.marker.Marking.{Marking}
 
-unfoldable pub kind_number : MarkerKind → ℕ
+abbrev pub kind_number : MarkerKind → ℕ
 kind_number TrackStart = 0
 kind_number TrackStop = 1
 kind_number ProgramStart = 2
 kind_number Index = 4
 
 -- the flags that a marker of a kind is written with: only a track start has any
-unfoldable pub kind_flags : MarkerKind → ℕ → ℕ
+abbrev pub kind_flags : MarkerKind → ℕ → ℕ
 kind_flags TrackStart flags = flags
 kind_flags TrackStop flags = 0
 kind_flags ProgramStart flags = 0
@@ -41,13 +41,13 @@ abbrev pub mark_channel : ℕ
 mark_channel = 0
 
 -- a marker's text in the file: bytes of the byte pool as they are, a title of the text pool converted
-unfoldable pub marker_text : List ℕ → List ℕ → TextRule → MarkerText → List ℕ
+abbrev pub marker_text : List ℕ → List ℕ → TextRule → MarkerText → List ℕ
 marker_text pool bytes rule Empty = []
 marker_text pool bytes rule (Bytes e) = part bytes e
 marker_text pool bytes rule (Title e) = text_bytes rule (part pool e)
 
 -- the frame whose time is written, from 0 on
-unfoldable pub frame_of : Marking → Marker → ℕ
+abbrev pub frame_of : Marking → Marker → ℕ
 frame_of how m = start_frame how.start + m.frame - how.first
 
 -- the 18 bytes before the text's count

@@ -5,30 +5,29 @@ ghost use Rattle.tree.specs.Tree.{bytes, each};
 ghost use Rattle.markers.specs.Marker.{mark};
 ghost use Rattle.markers.specs.Custom.{kind_of, custom_of, customs};
 
-use crate::marker::{Marker, MarkerKind, MarkerText, Marking};
+use crate::marker::{Marker, MarkerKind, MarkerText, Marking, mark};
 use chunk::Cursor;
 use texts::extent::Extent;
+use texts::pools::Pools;
 
 // The words of a marker's row: frame, kind and flags in one, text start, text length.
 const WORDS: usize = 4;
 
 // The kind of a number; numbers that have none are an index.
+#[tactic(auto, using(std::proofs::lemmas::Bool::Decides::nat_tests), unfolding(crate::specs::Custom::kind_of))]
 fn kind_of(n: u32) -> MarkerKind
     ensures { result ≡ kind_of n }
 {
-    if n == 0 {
-        return MarkerKind::TrackStart;
+    match n {
+        0 => MarkerKind::TrackStart,
+        1 => MarkerKind::TrackStop,
+        2 => MarkerKind::ProgramStart,
+        _ => MarkerKind::Index,
     }
-    if n == 1 {
-        return MarkerKind::TrackStop;
-    }
-    if n == 2 {
-        return MarkerKind::ProgramStart;
-    }
-    MarkerKind::Index
 }
 
 // The marker of a row.
+#[tactic(auto, unfolding(crate::specs::Custom::custom_of))]
 fn custom_of(row: &[u32]) -> Marker
     requires { length row.now ≡ 4 }
     ensures { result ≡ custom_of row.now }
@@ -45,25 +44,12 @@ fn custom_of(row: &[u32]) -> Marker
 }
 
 // The markers of all whole rows.
-pub fn custom(
-    c: Cursor,
-    out: &mut [u8],
-    pool: &[u32],
-    raw: &[u8],
-    rows: &[u32],
-    how: Marking,
-) -> Cursor
-    ensures { Appended out.old c.at (bytes (each (mark pool.now raw.now how) (customs rows.now))) out.new result.at }
+pub fn custom(c: Cursor, out: &mut [u8], pools: &Pools<'_>, rows: &[u32], how: Marking) -> Cursor
+    ensures { Appended out.old c.at (bytes (each (mark pools.now.text.now pools.now.bytes.now how) (customs rows.now))) out.new result.at }
 {
     let mut c = c;
-    let n = rows.len() / WORDS;
-    let mut i = 0;
-    while i < n {
-        let at = i * WORDS;
-        let to = at + WORDS;
-        let m = custom_of(&rows[at..to]);
-        c = crate::marker::mark(c, out, pool, raw, how, m);
-        i += 1;
+    for row in rows.chunks_exact(WORDS) {
+        c = mark(c, out, pools, how, custom_of(row));
     }
     c
 }

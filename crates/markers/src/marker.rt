@@ -8,9 +8,10 @@ ghost use Rattle.texts.specs.Text.{text_pad};
 ghost use Rattle.markers.specs.Marker.{kind_number, flags_of, marker_text, frame_of, mark_head, mark};
 
 use chunk::Cursor;
-use prop_fields::start::Start;
+use frame_time::time::{time, time_bytes};
 use texts::extent::Extent;
-use texts::text::{TextOptions, TextRule};
+use texts::pools::Pools;
+use texts::text::{TextOptions, TextRule, text_bytes, text_count, text_pad};
 
 // The two fields of MARK that hold zero: the offset in samples, and the channel (0: all).
 const OFFSET: u32 = 0;
@@ -45,7 +46,7 @@ pub struct Marker {
 #[derive(Clone, Copy)]
 pub struct Marking {
     pub text: TextOptions,
-    pub start: Start,
+    pub start: Option<u32>, // the file's absolute start, in frames
     pub first: u32,
 }
 
@@ -54,18 +55,10 @@ impl MarkerKind {
         ensures { result ≡ kind_number self }
     {
         match self {
-            MarkerKind::TrackStart => {
-                return 0;
-            }
-            MarkerKind::TrackStop => {
-                return 1;
-            }
-            MarkerKind::ProgramStart => {
-                return 2;
-            }
-            MarkerKind::Index => {
-                return 4;
-            }
+            MarkerKind::TrackStart => 0,
+            MarkerKind::TrackStop => 1,
+            MarkerKind::ProgramStart => 2,
+            MarkerKind::Index => 4,
         }
     }
 }
@@ -74,82 +67,58 @@ impl MarkerKind {
 fn flags(m: Marker) -> u16
     ensures { result ≡ flags_of m }
 {
-    let kind = m.kind;
-    if kind.value() == 0 {
-        return m.track_flags;
+    match m.kind {
+        MarkerKind::TrackStart => m.track_flags,
+        _ => 0,
     }
-    0
 }
 
 // The frame whose time a marker is written with, from 0 on.
 fn frame(how: Marking, m: Marker) -> u64
     ensures { result ≡ frame_of how m }
 {
-    let start = how.start;
-    let frame = start.frame() as u64 + m.frame as u64;
-    let first = how.first as u64;
-    if first <= frame {
-        return frame - first;
-    }
-    0
+    (how.start.unwrap_or(0) as u64 + m.frame as u64).saturating_sub(how.first as u64)
 }
 
 // Bytes of the byte pool.
 fn pool_bytes(c: Cursor, out: &mut [u8], raw: &[u8], e: Extent) -> Cursor
     ensures { Appended out.old c.at (part raw.now e) out.new result.at }
 {
-    let first = e.first(raw.len());
-    let end = e.end(raw.len());
-    c.bytes(out, &raw[first..end])
+    c.bytes(out, &raw[e.first(raw.len())..e.end(raw.len())])
 }
 
 // How many they are.
 fn pool_count(raw: &[u8], e: Extent) -> u32
     ensures { result ≡ length (part raw.now e) }
 {
-    let first = e.first(raw.len());
-    let end = e.end(raw.len());
-    (end - first) as u32
+    (e.end(raw.len()) - e.first(raw.len())) as u32
 }
 
 // A marker's text.
 fn marker_text(
     c: Cursor,
     out: &mut [u8],
-    pool: &[u32],
-    raw: &[u8],
+    pools: &Pools<'_>,
     rule: TextRule,
     text: MarkerText,
 ) -> Cursor
-    ensures { Appended out.old c.at (marker_text pool.now raw.now rule text) out.new result.at }
+    ensures { Appended out.old c.at (marker_text pools.now.text.now pools.now.bytes.now rule text) out.new result.at }
 {
     match text {
-        MarkerText::Empty => {
-            return c;
-        }
-        MarkerText::Bytes(e) => {
-            return pool_bytes(c, out, raw, e);
-        }
-        MarkerText::Title(e) => {
-            return texts::text::text_bytes(c, out, rule, pool, e);
-        }
+        MarkerText::Empty => c,
+        MarkerText::Bytes(e) => pool_bytes(c, out, pools.bytes, e),
+        MarkerText::Title(e) => text_bytes(c, out, rule, pools.text, e),
     }
 }
 
 // How many bytes it has.
-fn marker_text_count(pool: &[u32], raw: &[u8], rule: TextRule, text: MarkerText) -> u32
-    ensures { result ≡ length (marker_text pool.now raw.now rule text) }
+fn marker_text_count(pools: &Pools<'_>, rule: TextRule, text: MarkerText) -> u32
+    ensures { result ≡ length (marker_text pools.now.text.now pools.now.bytes.now rule text) }
 {
     match text {
-        MarkerText::Empty => {
-            return 0;
-        }
-        MarkerText::Bytes(e) => {
-            return pool_count(raw, e);
-        }
-        MarkerText::Title(e) => {
-            return texts::text::text_count(rule, pool, e);
-        }
+        MarkerText::Empty => 0,
+        MarkerText::Bytes(e) => pool_count(pools.bytes, e),
+        MarkerText::Title(e) => text_count(rule, pools.text, e),
     }
 }
 
@@ -157,11 +126,9 @@ fn marker_text_count(pool: &[u32], raw: &[u8], rule: TextRule, text: MarkerText)
 fn mark_head(c: Cursor, out: &mut [u8], how: Marking, m: Marker) -> Cursor
     ensures { Appended out.old c.at (mark_head how m) out.new result.at }
 {
-    let kind = m.kind;
-    let time = frame_time::time::time(frame(how, m));
-    let c = frame_time::time::time_bytes(c, out, time);
+    let c = time_bytes(c, out, time(frame(how, m)));
     let c = c.be32(out, OFFSET);
-    let c = c.be16(out, kind.value());
+    let c = c.be16(out, m.kind.value());
     let c = c.be16(out, CHANNEL);
     c.be16(out, flags(m))
 }
@@ -171,34 +138,28 @@ fn mark_data(
     c: Cursor,
     out: &mut [u8],
     count: u32,
-    pool: &[u32],
-    raw: &[u8],
+    pools: &Pools<'_>,
     how: Marking,
     m: Marker,
 ) -> Cursor
     ensures { Appended out.old c.at
-        (mark_head how m ++ (be 4 count ++ marker_text pool.now raw.now how.text.rule m.text) ++ text_pad how.text count)
+        (mark_head how m ++ (be 4 count ++ marker_text pools.now.text.now pools.now.bytes.now how.text.rule m.text) ++ text_pad how.text count)
         out.new result.at }
 {
-    let options = how.text;
-    let rule = options.rule;
-    let text = m.text;
     let c = mark_head(c, out, how, m);
     let c = c.be32(out, count);
-    let c = marker_text(c, out, pool, raw, rule, text);
-    texts::text::text_pad(c, out, count, options)
+    let c = marker_text(c, out, pools, how.text.rule, m.text);
+    text_pad(c, out, count, how.text)
 }
 
 // MARK.
-pub fn mark(c: Cursor, out: &mut [u8], pool: &[u32], raw: &[u8], how: Marking, m: Marker) -> Cursor
-    ensures { Appended out.old c.at (bytes (mark pool.now raw.now how m)) out.new result.at }
+pub fn mark(c: Cursor, out: &mut [u8], pools: &Pools<'_>, how: Marking, m: Marker) -> Cursor
+    ensures { Appended out.old c.at (bytes (mark pools.now.text.now pools.now.bytes.now how m)) out.new result.at }
 {
-    let options = how.text;
-    let rule = options.rule;
-    let text = m.text;
-    let count = marker_text_count(pool, raw, rule, text);
-    let size_at = c.name(out, *b"MARK");
-    let from = size_at.data_start(out.len());
-    let end = mark_data(Cursor::new(), &mut out[from..], count, pool, raw, how, m);
-    size_at.close(out, end)
+    let count = marker_text_count(pools, how.text.rule, m.text);
+    // The slices one by one: of a closure that captures a struct of references it is not known what it appends.
+    let Pools { text, bytes } = *pools;
+    c.chunk_of(out, *b"MARK", |c, out| {
+        mark_data(c, out, count, &Pools { text, bytes }, how, m)
+    })
 }

@@ -1,13 +1,12 @@
 -- What the numbers of PROP mean. Assumes nothing.
-use Rattle.std.specs.Prelude.{ℕ, Bool, cond, List, map, eqb}
+use Rattle.prop_fields.specs.Start.{Start}
+use Rattle.std.specs.Prelude.{None, Some, ℕ, Bool, cond, List, map, eqb}
 use Rattle.chunk_names.specs.declared.PropertyChunk.{PropertyChunk}
 use Rattle.chunk_names.specs.declared.PropertyChunk.TheVariants.{SampleRate, Channels, CompressionType, AbsoluteStartTime, LoudspeakerConfiguration}
 use Rattle.prop_fields.specs.declared.compression.Sound.{Sound}
 use Rattle.prop_fields.specs.declared.compression.Sound.TheVariants.{Dsd, Dst}
 use Rattle.prop_fields.specs.declared.layout.Layout.{Layout}
 use Rattle.prop_fields.specs.declared.layout.Layout.TheVariants.{Stereo, ThreeTwo, FivePointOne, Unspecified}
-use Rattle.prop_fields.specs.declared.start.Start.{Start}
-use Rattle.prop_fields.specs.declared.start.Start.TheVariants.{Absent, Given}
 
 abbrev pub sound_of : Bool → Sound
 sound_of dst = cond dst Dst Dsd
@@ -18,7 +17,7 @@ layout_of number = cond (eqb number 0) Stereo (cond (eqb number 1) ThreeTwo (con
 
 -- a start, if it is given
 abbrev pub start_of : Bool → ℕ → Start
-start_of given frame = cond given (Given frame) Absent
+start_of given frame = cond given (Some frame) None
 
 -- 0 is FS, 1 is CHNL, 2 is CMPR, 3 is ABSS, any other is LSCO
 abbrev pub property_chunk_of : ℕ → PropertyChunk

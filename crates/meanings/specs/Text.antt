@@ -1,10 +1,9 @@
 -- What the numbers of texts mean. Assumes nothing.
-use Rattle.std.specs.Prelude.{ℕ, Bool, cond, eqb}
+use Rattle.diin_texts.specs.DiinText.{Text}
+use Rattle.std.specs.Prelude.{None, Some, ℕ, Bool, cond, eqb}
 use Rattle.texts.specs.declared.text.TextRule.{TextRule}
 use Rattle.texts.specs.declared.text.TextRule.TheVariants.{Replace, Remove, D2}
 use Rattle.texts.specs.declared.text.TextOptions.{TextOptions}
-use Rattle.diin_texts.specs.declared.diin_text.Text.{Text}
-use Rattle.diin_texts.specs.declared.diin_text.Text.TheVariants.{Absent, Given}
 
 -- 0 replaces by a byte, 1 removes, any other is D2
 abbrev pub rule_of : ℕ → ℕ → TextRule
@@ -15,4 +14,4 @@ options_of number replacement emptyText padCounted = record { rule = rule_of num
 
 -- a text, if it is given
 abbrev pub text_of : Bool → ℕ → ℕ → Text
-text_of given start length = cond given (Given (record { start = start; length = length })) Absent
+text_of given start length = cond given (Some (record { start = start; length = length })) None

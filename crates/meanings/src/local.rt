@@ -1,6 +1,6 @@
 // The numbers of the local chunks.
 ghost use Rattle.std.specs.Prelude.{◌≡◌};
-ghost use Rattle.meanings.specs.Local.{local_chunk_of};
+ghost use Rattle.meanings.specs.Local.{local_chunk_of, local_order_of};
 
 use chunk_names::LocalChunk;
 
@@ -8,17 +8,17 @@ use chunk_names::LocalChunk;
 pub fn local_chunk(number: u8) -> LocalChunk
     ensures { result ≡ local_chunk_of number }
 {
-    if number == 0 {
-        return LocalChunk::Property;
+    match number {
+        0 => LocalChunk::Property,
+        1 => LocalChunk::SoundData,
+        2 => LocalChunk::DstIndex,
+        3 => LocalChunk::EditedMasterInfo,
+        _ => LocalChunk::Comments,
     }
-    if number == 1 {
-        return LocalChunk::SoundData;
-    }
-    if number == 2 {
-        return LocalChunk::DstIndex;
-    }
-    if number == 3 {
-        return LocalChunk::EditedMasterInfo;
-    }
-    LocalChunk::Comments
+}
+
+pub fn local_order(numbers: [u8; 5]) -> [LocalChunk; 5]
+    ensures { result ≡ local_order_of numbers }
+{
+    numbers.map(local_chunk)
 }

@@ -9,7 +9,8 @@ pub fn offset(frame_data: bool) -> DstIndexOffset
     ensures { result ≡ offset_of frame_data }
 {
     if frame_data {
-        return DstIndexOffset::FrameData;
+        DstIndexOffset::FrameData
+    } else {
+        DstIndexOffset::ChunkHeader
     }
-    DstIndexOffset::ChunkHeader
 }

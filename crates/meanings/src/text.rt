@@ -2,7 +2,6 @@
 ghost use Rattle.std.specs.Prelude.{◌≡◌};
 ghost use Rattle.meanings.specs.Text.{rule_of, options_of, text_of};
 
-use diin_texts::diin_text::Text;
 use texts::extent::Extent;
 use texts::text::{TextOptions, TextRule};
 
@@ -10,13 +9,11 @@ use texts::text::{TextOptions, TextRule};
 pub fn rule(number: u8, replacement: u8) -> TextRule
     ensures { result ≡ rule_of number replacement }
 {
-    if number == 0 {
-        return TextRule::Replace(replacement);
+    match number {
+        0 => TextRule::Replace(replacement),
+        1 => TextRule::Remove,
+        _ => TextRule::D2,
     }
-    if number == 1 {
-        return TextRule::Remove;
-    }
-    TextRule::D2
 }
 
 pub fn options(
@@ -29,20 +26,14 @@ pub fn options(
 {
     TextOptions {
         rule: rule(rule_number, replacement),
-        empty_text: empty_text,
-        text_pad_counted: text_pad_counted,
+        empty_text,
+        text_pad_counted,
     }
 }
 
 // A text that may be missing.
-pub fn text(given: bool, start: u32, length: u32) -> Text
+pub fn text(given: bool, start: u32, length: u32) -> Option<Extent>
     ensures { result ≡ text_of given start length }
 {
-    if given {
-        return Text::Given(Extent {
-            start: start,
-            length: length,
-        });
-    }
-    Text::Absent
+    given.then_some(Extent { start, length })
 }

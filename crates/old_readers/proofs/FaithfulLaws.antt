@@ -5,7 +5,7 @@ use Prim.Native.Nat.{ℕ}
 use lib.ListN.{length, take}
 use Rattle.tree.specs.Gather.{window, Faithful}
 use Rattle.dst.specs.Frame.{Frame}
-use Rattle.read_answer.specs.declared.answer.ReadAnswer.{ReadAnswer}
+use Rattle.read_answer.specs.Answer.{ReadAnswer}
 use Rattle.read_answer.specs.declared.answer.ReadAnswer.TheVariants as answer
 use Rattle.file_read.specs.Read.{Request, Reads}
 use Rattle.old_readers.specs.Premises.{AcceptedBuild, Call, Recorded, WasGiven, IfAccepted, AllGiven, read_by, reads_of}

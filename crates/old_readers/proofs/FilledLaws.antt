@@ -11,8 +11,8 @@ use Rattle.chunk.proofs.AppendLaws.{length-overlay, overlay-out, overlay-append,
 use Rattle.window.specs.Window.{shown}
 use Rattle.window.proofs.TestLaws.{lt-or-le}
 use Rattle.tree.specs.Gather.{window}
-use Rattle.refusal.specs.declared.verdict.Verdict.{Verdict}
-use Rattle.refusal.specs.declared.verdict.Verdict.TheVariants.{Accepted, Refused}
+use Rattle.refusal.specs.Verdict.{Verdict}
+use Rattle.std.specs.Prelude.{Ok, Err}
 use Rattle.read_answer.specs.declared.answer.ReadAnswer.TheVariants as answer
 use Rattle.file_read.specs.Read.{Request, file_with, Reading, Reads, read_verdict}
 
@@ -60,5 +60,5 @@ pub filled : (q : Request) {out last : List ℕ} {count : ℕ} → Reads q out l
 filled q {out} {last} {count} p = by (read_verdict q (length out)) p
   where
     by : (v : Verdict) → Reading v q out last (answer.Filled count) → Filled q out last count
-    by Accepted r = record { many = cc r.answer; buffer = r.buffer }
+    by (Ok tt) r = record { many = cc r.answer; buffer = r.buffer }
     by (Refused n d) r = let z : ◌≡◌ {A = ℕ} 0 1 = cc r.answer in absurd (omega arith)

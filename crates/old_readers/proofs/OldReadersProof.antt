@@ -19,7 +19,7 @@ use Rattle.dst.specs.Frame.{Frame}
 use Rattle.dst_index.specs.Index.{Stands}
 use Rattle.prop_fields.specs.declared.compression.Sound.{Sound}
 use Rattle.prop_fields.specs.declared.compression.Sound.TheVariants.{Dst}
-use Rattle.refusal.specs.declared.verdict.Verdict.TheVariants.{Accepted}
+use Rattle.std.specs.Prelude.{Ok}
 use Rattle.build_options.specs.Inputs.{Inputs}
 use Rattle.checks.specs.InputVerdict.{verdict}
 use Rattle.file_tree.specs.Sound.{Fits, sound_bytes}
@@ -46,7 +46,7 @@ module _ (b : AcceptedBuild) (fs : List Frame) (recorded : Recorded b.inputs fs)
   abbrev x : Inputs
   x = b.inputs
 
-  ok : verdict x ≡ Accepted
+  ok : verdict x ≡ Ok tt
   ok = (made x b.header_before b.trailer_before b.promise refl).ok
 
   -- THE FILE that was built and given is the bytes of the tree that 01's rules make

@@ -17,8 +17,8 @@ use Rattle.dst_index.specs.declared.index.DstIndexOffset.TheVariants.{ChunkHeade
 use Rattle.dst_index.proofs.IndexLaws.{entry_at, entry_length_lem, length-index}
 use Rattle.prop_fields.specs.declared.compression.Sound.{Sound}
 use Rattle.prop_fields.specs.declared.compression.Sound.TheVariants.{Dst}
-use Rattle.refusal.specs.declared.verdict.Verdict.{Verdict}
-use Rattle.refusal.specs.declared.verdict.Verdict.TheVariants.{Accepted, Refused}
+use Rattle.refusal.specs.Verdict.{Verdict}
+use Rattle.std.specs.Prelude.{Ok, Err}
 use Rattle.refusal.proofs.VerdictLaws.{none_so, inside}
 use Rattle.rows.specs.Lengths.{length_wrong, lengths_wrong}
 use Rattle.build_answer.specs.declared.answer.Answer.TheVariants.{Built}
@@ -53,14 +53,14 @@ header-length : (x : Inputs) (h t : List ℕ) {h' t' : List ℕ} {a c d : ℕ} �
 header-length x h t {h'} {t'} {a} {c} {d} outcome = by (build_verdict x h t) outcome
   where
     by : (v : Verdict) → Outcome x v h h' t t' (Built a c d) → a ≡ length (header_of x)
-    by Accepted o = let e = o.answers in cc
+    by (Ok tt) o = let e = o.answers in cc
     by (Refused n m) o = let e = o.answers in let z : ◌≡◌ {A = ℕ} 0 1 = cc in absurd (omega arith)
 
 module _ (b : AcceptedBuild) (fs : List Frame) (recorded : Recorded b.inputs fs) (dst : b.inputs.area.sound ≡ Dst) where
   abbrev x : Inputs
   x = b.inputs
 
-  ok : verdict x ≡ Accepted
+  ok : verdict x ≡ Ok tt
   ok = (made x b.header_before b.trailer_before b.promise refl).ok
 
   same : lengths fs ≡ x.lengths

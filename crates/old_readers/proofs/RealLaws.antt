@@ -12,8 +12,7 @@ use Rattle.dst.specs.Frame.{Frame, frame_bytes, plain_bytes, dsd_sound}
 use Rattle.dst.specs.Unit.{sound, lengths}
 use Rattle.prop_fields.specs.declared.compression.Sound.{Sound}
 use Rattle.prop_fields.specs.declared.compression.Sound.TheVariants.{Dsd, Dst}
-use Rattle.sound_reads.specs.declared.lent.Fill.{Fill}
-use Rattle.sound_reads.specs.declared.lent.Fill.TheVariants as fill
+use Rattle.std.specs.Prelude.{Option, Some}
 use Rattle.sound_reads.specs.Positions.{between}
 use Rattle.sound_reads.specs.Fill.{Filling}
 use Rattle.sound_reads.specs.Lent.{frames_with, contents_with, codes, contents}
@@ -40,16 +39,16 @@ count-is n len offset = omega arith
 
 module _ (q : Request) (out : List ℕ) where
   -- the place behind the sound s, and the buffer with it
-  abbrev SoundShown : List ℕ → List ℕ → Fill → Type 0
+  abbrev SoundShown : List ℕ → List ℕ → Option Window → Type 0
   SoundShown s last r = Filling true s (behind q out) out last r
 
-  same_files : (s t : List ℕ) → ((last : List ℕ) (r : Fill) → SoundShown s last r → SoundShown t last r)
+  same_files : (s t : List ℕ) → ((last : List ℕ) (r : Option Window) → SoundShown s last r → SoundShown t last r)
       → Same (q.header ++ s ++ q.trailer) (q.header ++ t ++ q.trailer) q.offset out
   same_files s t e =
       let w = behind q out in
       let mid = shown s w out in
       let v = after (length s) (length out) w in
-      let f = e mid (fill.Filled v) (record { answer = refl; buffer = refl }) in
+      let f = e mid (Some v) (record { answer = refl; buffer = refl }) in
       let late = shown q.trailer v mid in
       let u = after (length q.trailer) (length mid) v in
       let last = shown q.header (begin q out) late in
@@ -73,7 +72,7 @@ module _ (q : Request) (out : List ℕ) where
   known_sound = sound_with q.format q.lengths (needed_for q (length out)) q.frames q.contents
 
   -- DST: the sound with the lent frames shows what the sound of all frames shows
-  dst-sound : (fs : List Frame) → DstRead fs q (length out) → (last : List ℕ) (r : Fill) → SoundShown known_sound last r
+  dst-sound : (fs : List Frame) → DstRead fs q (length out) → (last : List ℕ) (r : Option Window) → SoundShown known_sound last r
       → SoundShown (sound q.format.crc fs) last r
   dst-sound fs known last r p =
       let crc = q.format.crc in
@@ -84,7 +83,7 @@ module _ (q : Request) (out : List ℕ) where
       same-sound crc q.format.channels fs known.plain (behind q out) out (rw given at p)
 
   -- DSD: the same of the contents
-  dsd-sound : (xs : List (List ℕ)) → DsdRead xs q (length out) → (last : List ℕ) (r : Fill) → SoundShown known_sound last r
+  dsd-sound : (xs : List (List ℕ)) → DsdRead xs q (length out) → (last : List ℕ) (r : Option Window) → SoundShown known_sound last r
       → SoundShown (dsd_sound xs) last r
   dsd-sound xs known last r p =
       let needs = dsd_needs q out xs in
@@ -93,7 +92,7 @@ module _ (q : Request) (out : List ℕ) where
       same-sound-dsd q.format.channels xs known.even (behind q out) out (rw given at p)
 
   -- of either kind
-  sound-same : (s : Sound) (fs : List Frame) → ReadOf s fs q (length out) → (last : List ℕ) (r : Fill) → SoundShown known_sound last r
+  sound-same : (s : Sound) (fs : List Frame) → ReadOf s fs q (length out) → (last : List ℕ) (r : Option Window) → SoundShown known_sound last r
       → SoundShown (sound_bytes s q.format.crc fs) last r
   unfolding sound_bytes
   sound-same Dst fs known = dst-sound fs known

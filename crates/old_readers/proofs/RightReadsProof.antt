@@ -10,7 +10,7 @@ use lib.ListN.{length, replicate, length-replicate}
 use Rattle.dst.specs.Frame.{Frame}
 use Rattle.prop_fields.specs.declared.compression.Sound.{Sound}
 use Rattle.prop_fields.specs.declared.compression.Sound.TheVariants.{Dsd, Dst}
-use Rattle.refusal.specs.declared.verdict.Verdict.TheVariants.{Accepted}
+use Rattle.std.specs.Prelude.{Ok}
 use Rattle.dst_reads.proofs.RealLaws as dst
 use Rattle.dsd_reads.proofs.RealLaws.{lent-even}
 use Rattle.build_options.specs.Inputs.{Inputs}
@@ -65,7 +65,7 @@ module _ (b : AcceptedBuild) (fs : List Frame) (q : Request) (room : ℕ) (given
   few-told Dsd many = rw many (positions_few x built.ok sized)
   few-told Dst ls = rw ls (lengths-few x built.ok sized)
 
-  format-right : format_fault q.format q.lengths (length q.header) (length q.trailer) ≡ Accepted
+  format-right : format_fault q.format q.lengths (length q.header) (length q.trailer) ≡ Ok tt
   unfolding format_fault
   format-right =
       let s = x.area.sound in
@@ -81,7 +81,7 @@ module _ (b : AcceptedBuild) (fs : List Frame) (q : Request) (room : ℕ) (given
 
 -- a read into a buffer
 into : (b : AcceptedBuild) (fs : List Frame) → Recorded b.inputs fs → (q : Request) (out : List ℕ) → WasGiven b fs q (length out)
-    → LentLengths b.inputs.area.sound fs q (length out) → read_verdict q (length out) ≡ Accepted
+    → LentLengths b.inputs.area.sound fs q (length out) → read_verdict q (length out) ≡ Ok tt
 into b fs recorded q out given lent =
     let known = read_of b fs recorded q (length out) given in
     rw (format-right b fs q (length out) given, is-lent b.inputs.area.sound fs q out known lent)
@@ -89,6 +89,6 @@ into b fs recorded q out given lent =
 pub every-right-read : EveryRightRead
 every-right-read b fs recorded q room given lent =
     let e = length-replicate {A = ℕ} room 0 in
-    subst (λ (n : ℕ). read_verdict q n ≡ Accepted) e
+    subst (λ (n : ℕ). read_verdict q n ≡ Ok tt) e
     (into b fs recorded q (replicate room 0) (subst (λ (n : ℕ). WasGiven b fs q n) (sym e) given)
     (subst (λ (n : ℕ). LentLengths b.inputs.area.sound fs q n) (sym e) lent))

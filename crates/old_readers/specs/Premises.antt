@@ -13,7 +13,7 @@ use Rattle.build_options.specs.Inputs.{Inputs}
 use Rattle.file_tree.specs.Sound.{Fits}
 use Rattle.build_answer.specs.declared.answer.Answer.TheVariants.{Built}
 use Rattle.assemble.specs.Build.{Builds}
-use Rattle.read_answer.specs.declared.answer.ReadAnswer.{ReadAnswer}
+use Rattle.read_answer.specs.Answer.{ReadAnswer}
 use Rattle.read_answer.specs.declared.answer.ReadAnswer.TheVariants as answer
 use Rattle.file_read.specs.Read.{Request, needed_for, Reads}
 

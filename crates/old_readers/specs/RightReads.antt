@@ -4,7 +4,7 @@ use Rattle.dst.specs.Frame.{Frame}
 use Rattle.dst.specs.Unit.{lengths}
 use Rattle.prop_fields.specs.declared.compression.Sound.{Sound}
 use Rattle.prop_fields.specs.declared.compression.Sound.TheVariants.{Dsd, Dst}
-use Rattle.refusal.specs.declared.verdict.Verdict.TheVariants.{Accepted}
+use Rattle.std.specs.Prelude.{Ok}
 use Rattle.sound_reads.specs.Positions.{between}
 use Rattle.file_read.specs.Read.{Request, needed_for, read_verdict}
 use Rattle.old_readers.specs.Premises.{AcceptedBuild, Recorded, WasGiven}
@@ -16,4 +16,4 @@ LentLengths Dst fs q room = q.lent ≡ lengths (between (needed_for q room) fs)
 
 abbrev pub EveryRightRead : Type 0
 EveryRightRead = (b : AcceptedBuild) (fs : List Frame) → Recorded b.inputs fs → (q : Request) (room : ℕ) → WasGiven b fs q room
-    → LentLengths b.inputs.area.sound fs q room → read_verdict q room ≡ Accepted
+    → LentLengths b.inputs.area.sound fs q room → read_verdict q room ≡ Ok tt

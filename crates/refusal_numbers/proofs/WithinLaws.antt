@@ -7,12 +7,12 @@ use lib.Dec.{leb}
 use borrow.Author.Tests.{leb-true}
 use Rattle.refusal.specs.Verdict.{or_else, refuse_if, when}
 use Rattle.refusal.specs.Below.{below, first_refused}
-use Rattle.refusal.specs.declared.verdict.Verdict.{Verdict}
-use Rattle.refusal.specs.declared.verdict.Verdict.TheVariants.{Accepted, Refused}
+use Rattle.refusal.specs.Verdict.{Verdict}
+use Rattle.std.specs.Prelude.{Ok, Err}
 use Rattle.refusal_numbers.specs.Numbers.{Within}
 
 module _ {low high : ℕ} where
-  pub within_none : Within low high Accepted
+  pub within_none : Within low high (Ok tt)
   within_none = record {
     least = λ n d e. let z : ◌≡◌ {A = ℕ} 0 1 = cc in absurd (omega arith);
     most = λ n d e. let z : ◌≡◌ {A = ℕ} 0 1 = cc in absurd (omega arith);
@@ -29,7 +29,7 @@ module _ {low high : ℕ} where
   within_if false number detail l m = within_none
 
   pub within-or : (v w : Verdict) → Within low high v → Within low high w → Within low high (or_else v w)
-  within-or Accepted w a b = b
+  within-or (Ok tt) w a b = b
   within-or (Refused number detail) w a b = a
 
   pub within-when : (t : Bool) {v : Verdict} → Within low high v → Within low high (when t v)

@@ -1,7 +1,7 @@
 -- THE NUMBERS OF REFUSALS: a build's are 1 to 41, a query's 42, a read's 42 and 43; none is 0, so that the number 0 is never a refusal's. Assumes nothing.
 use Rattle.std.specs.Prelude.{◌≡◌, List, ℕ, ◌≤◌}
-use Rattle.refusal.specs.declared.verdict.Verdict.{Verdict}
-use Rattle.refusal.specs.declared.verdict.Verdict.TheVariants.{Refused}
+use Rattle.refusal.specs.Verdict.{Verdict}
+use Rattle.std.specs.Prelude.{Err}
 use Rattle.build_options.specs.Inputs.{Inputs}
 use Rattle.assemble.specs.Build.{build_verdict}
 use Rattle.read_rules.specs.declared.format.SoundFormat.{SoundFormat}

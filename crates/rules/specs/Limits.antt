@@ -2,10 +2,10 @@
 -- 16,777,216 bytes" (01; the values by 02, job 3, the tracks by 02, job 10). 2: "A stretch runs outside its pool". 3: "A text value is no Unicode scalar". Every text that is given counts,
 -- used or not; given markers only if they are wanted. Assumes nothing.
 use Rattle.std.specs.Prelude.{ℕ, ◌-◌, ◌^◌, Bool, ◌&&◌, ◌||◌, List, [], ◌∷◌, length}
-use Rattle.refusal.specs.Verdict.{refuse_if, first_of}
+use Rattle.refusal.specs.Verdict.{Verdict, refuse_if, first_of}
 use Rattle.row_extents.specs.Extents.{too_large, outside_pool}
 use Rattle.rows.specs.Scalars.{no_scalars}
-use Rattle.refusal.specs.declared.verdict.Verdict.{Verdict}
+use Rattle.refusal.specs.declared.verdict.Refusal.TheVariants as refused
 use Rattle.rows.specs.declared.row.Row.TheVariants.{Text, Caller, Track, Marker, Comment}
 use Rattle.build_options.specs.declared.options.Options.{Options}
 use Rattle.build_options.specs.Options.{tag_rows, id_row}
@@ -62,7 +62,7 @@ module _ (o : Options) where
   unfoldable pub limit_faults : List ℕ → List ℕ → List ℕ → List ℕ → List ℕ → List ℕ → Verdict
   limit_faults pool raw tracks markers comments callers =
       first_of
-      (refuse_if (any_too_large tracks markers comments callers) 1 0
-      ∷ refuse_if (any_outside (length pool) (length raw) tracks markers comments callers) 2 0
-      ∷ refuse_if (any_no_scalar pool tracks comments) 3 0
+      (refuse_if (any_too_large tracks markers comments callers) refused.TooLarge
+      ∷ refuse_if (any_outside (length pool) (length raw) tracks markers comments callers) refused.OutsidePool
+      ∷ refuse_if (any_no_scalar pool tracks comments) refused.NoScalar
       ∷ [])

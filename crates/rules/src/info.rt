@@ -4,21 +4,20 @@ ghost use Rattle.rules.specs.Info.{id_wrong, info_faults};
 
 use build_options::area::Area;
 use chunk_names::InfoChunk;
-use diin_texts::diin_text::Text;
+use faults::marks::marker_faults;
+use faults::text_bytes::part_has_no_text;
 use master_info::diin::Info;
-use refusal::verdict::{Verdict, refuse_if};
+use refusal::orders::each_once;
+use refusal::verdict::{Refusal, Verdict, refuse_if};
+use texts::extent::Extent;
 use texts::text::TextRule;
 
-fn id_wrong(raw: &[u8], id: Text) -> bool
+fn id_wrong(raw: &[u8], id: Option<Extent>) -> bool
     ensures { result ≡ id_wrong raw.now id }
 {
     match id {
-        Text::Absent => {
-            return false;
-        }
-        Text::Given(e) => {
-            return faults::text_bytes::part_has_no_text(TextRule::Remove, raw, e);
-        }
+        Some(e) => part_has_no_text(TextRule::Remove, raw, e),
+        None => false,
     }
 }
 
@@ -32,14 +31,15 @@ pub fn info_faults(
 ) -> Verdict
     ensures { result ≡ info_faults area info order raw.now markers.now }
 {
-    let id = info.emid;
-    let text = info.text;
-    let rule = text.rule;
-    let ranks = refusal::orders::info_ranks(order);
-    let v30 = refuse_if(!refusal::orders::each_once(&ranks, 4), 30, 0);
-    let v31 = refuse_if(id_wrong(raw, id), 31, 0);
-    let v32 = faults::marks::marker_faults(markers, raw, rule, area.first, area.end);
-    let v32 = v32.when(info.custom_markers);
-    let v = v30.or_else(v31.or_else(v32));
-    v.when(info.on)
+    if !info.on {
+        return Ok(());
+    }
+    let names = InfoChunk::table_order();
+    refuse_if(!each_once(&order, &names), Refusal::InfoOrder)?;
+    refuse_if(id_wrong(raw, info.emid), Refusal::EmidByte)?;
+    if info.custom_markers {
+        marker_faults(markers, raw, info.text.rule, area.first, area.end)
+    } else {
+        Ok(())
+    }
 }

@@ -1,9 +1,11 @@
 // Limits, pools and Unicode scalars (1 to 3), of everything that is lent.
 ghost use Rattle.std.specs.Prelude.{◌≡◌, length};
+ghost use Rattle.build_options.specs.Inputs.{inputs_of};
 ghost use Rattle.rules.specs.Limits.{any_too_large, any_outside, any_no_scalar, limit_faults};
 
-use build_options::options::Options;
-use refusal::verdict::{Verdict, refuse_if};
+use build_options::inputs::Inputs;
+use build_options::options::{id_row, tag_rows};
+use refusal::verdict::{Refusal, Verdict, refuse_if};
 use row_extents::extents::{RowFaults, extents};
 use rows::row::Row;
 use rows::scalars::no_scalars;
@@ -22,34 +24,29 @@ const MOST_MARKERS: u64 = 65_535;
 const ANY: u64 = u64::MAX;
 
 // 1 and 2 of all rows. Given markers count only if they are wanted.
-fn row_faults(
-    o: Options,
-    pool: &[u32],
-    raw: &[u8],
-    tracks: &[u32],
-    markers: &[u32],
-    comments: &[u32],
-    callers: &[u32],
-) -> RowFaults
-    ensures too_large_value { result.too_large ≡ any_too_large o tracks.now markers.now comments.now callers.now }
-    ensures outside_value { result.outside ≡ any_outside o (length pool.now) (length raw.now) tracks.now markers.now comments.now callers.now }
+fn row_faults(inputs: &Inputs<'_>) -> RowFaults
+    ensures too_large_value {
+        let x = inputs_of inputs.now in result.too_large ≡ any_too_large x.options x.tracks x.markers x.comments x.callers }
+    ensures outside_value {
+        let x = inputs_of inputs.now in
+        result.outside ≡ any_outside x.options (length x.pool) (length x.raw) x.tracks x.markers x.comments x.callers }
 {
-    let album = o.album;
-    let track = o.track;
-    let id = o.edited_master_id;
-    let tags = build_options::options::tag_rows(album, track);
-    let emid = build_options::options::id_row(id);
-    let a = extents(Row::Text, &tags, ANY, LONGEST_TEXT, pool.len());
-    let b = extents(Row::Text, &emid, ANY, LONGEST_TEXT, raw.len());
-    let c = extents(Row::Track, tracks, MOST_TRACKS, LONGEST_TEXT, pool.len());
-    let d = extents(Row::Marker, markers, MOST_MARKERS, LONGEST_TEXT, raw.len());
-    let e = extents(Row::Comment, comments, ANY, LONGEST_TEXT, pool.len());
+    let o = inputs.options;
+    let pool = inputs.lent.pools.text.len();
+    let raw = inputs.lent.pools.bytes.len();
+    let tags = tag_rows(o.album, o.track);
+    let emid = id_row(o.edited_master_id);
+    let a = extents(Row::Text, &tags, ANY, LONGEST_TEXT, pool);
+    let b = extents(Row::Text, &emid, ANY, LONGEST_TEXT, raw);
+    let c = extents(Row::Track, inputs.lent.tracks, MOST_TRACKS, LONGEST_TEXT, pool);
+    let d = extents(Row::Marker, inputs.lent.markers, MOST_MARKERS, LONGEST_TEXT, raw);
+    let e = extents(Row::Comment, inputs.lent.comments, ANY, LONGEST_TEXT, pool);
     let f = extents(
         Row::Caller,
-        callers,
+        inputs.lent.callers,
         MOST_CALLER_CHUNKS,
         LONGEST_CALLER_CHUNK,
-        raw.len(),
+        raw,
     );
     let custom = o.custom_markers;
     RowFaults {
@@ -62,33 +59,23 @@ fn row_faults(
 }
 
 // Whether a text has a value that is no scalar.
-fn any_no_scalar(o: Options, pool: &[u32], tracks: &[u32], comments: &[u32]) -> bool
-    ensures { result ≡ any_no_scalar o pool.now tracks.now comments.now }
+fn any_no_scalar(inputs: &Inputs<'_>) -> bool
+    ensures { let x = inputs_of inputs.now in result ≡ any_no_scalar x.options x.pool x.tracks x.comments }
 {
-    let album = o.album;
-    let track = o.track;
-    let tags = build_options::options::tag_rows(album, track);
-    let a = no_scalars(Row::Text, &tags, pool);
-    let b = no_scalars(Row::Track, tracks, pool);
-    let c = no_scalars(Row::Comment, comments, pool);
-    a | (b | c)
+    let pool = inputs.lent.pools.text;
+    let tags = tag_rows(inputs.options.album, inputs.options.track);
+    no_scalars(Row::Text, &tags, pool)
+        || no_scalars(Row::Track, inputs.lent.tracks, pool)
+        || no_scalars(Row::Comment, inputs.lent.comments, pool)
 }
 
 // 1 to 3
-pub fn limit_faults(
-    o: Options,
-    pool: &[u32],
-    raw: &[u8],
-    tracks: &[u32],
-    markers: &[u32],
-    comments: &[u32],
-    callers: &[u32],
-) -> Verdict
-    ensures { result ≡ limit_faults o pool.now raw.now tracks.now markers.now comments.now callers.now }
+pub fn limit_faults(inputs: &Inputs<'_>) -> Verdict
+    ensures {
+        let x = inputs_of inputs.now in result ≡ limit_faults x.options x.pool x.raw x.tracks x.markers x.comments x.callers }
 {
-    let rows = row_faults(o, pool, raw, tracks, markers, comments, callers);
-    let v1 = refuse_if(rows.too_large, 1, 0);
-    let v2 = refuse_if(rows.outside, 2, 0);
-    let v3 = refuse_if(any_no_scalar(o, pool, tracks, comments), 3, 0);
-    v1.or_else(v2.or_else(v3))
+    let rows = row_faults(inputs);
+    refuse_if(rows.too_large, Refusal::TooLarge)?;
+    refuse_if(rows.outside, Refusal::OutsidePool)?;
+    refuse_if(any_no_scalar(inputs), Refusal::NoScalar)
 }

@@ -1,6 +1,6 @@
 -- A word of a list. Assumes nothing.
 use Rattle.std.specs.Prelude.{ℕ, zero, suc, ◌+◌, ◌^◌, ◌%◌, Bool, not, List, [], ◌∷◌, eqb, get_or}
-use Rattle.diin_texts.specs.declared.diin_text.Text.{Text}
+use Rattle.diin_texts.specs.DiinText.{Text}
 use Rattle.meanings.specs.Diin.{given_text}
 
 -- word i, 0 past the end

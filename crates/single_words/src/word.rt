@@ -3,15 +3,13 @@
 ghost use Rattle.std.specs.Prelude.{◌≡◌};
 ghost use Rattle.single_words.specs.Word.{word_of, low_byte, half_of, is_set, text_at};
 
-use diin_texts::diin_text::Text;
+use meanings::diin::given_text;
+use texts::extent::Extent;
 
 pub fn word(words: &[u32], i: usize) -> u32
     ensures { result ≡ word_of words.now i }
 {
-    if i < words.len() {
-        return words[i];
-    }
-    0
+    words.get(i).copied().unwrap_or(0)
 }
 
 pub fn byte(words: &[u32], i: usize) -> u8
@@ -33,11 +31,9 @@ pub fn is_set(words: &[u32], i: usize) -> bool
 }
 
 // A text of three words from word i on.
-pub fn text_at(words: &[u32], i: u8) -> Text
+pub fn text_at(words: &[u32], i: u8) -> Option<Extent>
     ensures { result ≡ text_at words.now i }
 {
-    let given = word(words, i as usize);
-    let start = word(words, i as usize + 1);
-    let length = word(words, i as usize + 2);
-    meanings::diin::given_text([given, start, length])
+    let at = i as usize;
+    given_text([word(words, at), word(words, at + 1), word(words, at + 2)])
 }

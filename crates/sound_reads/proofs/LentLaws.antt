@@ -1,5 +1,5 @@
 -- The laws of specs/Lent.antt. Assumes nothing.
-use mathlib.Core.Path.{◌≡◌, refl, ap, ◌∙◌}
+use mathlib.Core.Path.{◌≡◌, refl, sym, ap, ◌∙◌}
 use mathlib.Core.Bool.{true, ◌&&◌, and_assoc}
 use mathlib.Core.List.{List, [], ◌∷◌, ◌++◌, map, flat_map, map-append}
 use Prim.Native.Nat.{ℕ, zero, suc, ◌+◌, ◌*◌, ◌-◌, ◌^◌, ◌≤◌, ◌<◌, min}
@@ -9,6 +9,7 @@ use lib.Dec.{eqb}
 use lib.ListN.{length, take, drop, get_or, length-append, length-map, length-replicate, length-drop, take-append-drop}
 use lib.Seq.{slice, take-take, take-nil, drop-drop, length-take-le, length-slice, take_at, drop_at}
 use borrow.Author.Tests.{eqb-true}
+use Rattle.std.specs.Cmp.Lexicographic.{pointwise}
 use Rattle.chunk_names.specs.Name.{same}
 use Rattle.sound_reads.specs.declared.place.Positions.{Positions}
 use Rattle.dst.specs.Frame.{Frame}
@@ -17,16 +18,16 @@ use Rattle.dst.specs.Start.{sum}
 use Rattle.sound_reads.specs.Positions.{between}
 use Rattle.sound_reads.specs.Lent.{is_lent, lent_frames, zero_frame, frames_with, codes, contents, Even}
 use Rattle.window.proofs.TestLaws.{and_left, and_right, stopped}
-use Rattle.sound_reads.proofs.SameLaws.{same_true}
+use Rattle.sound_reads.proofs.SameLaws.{same_pointwise, same_true}
 
 -- the test as the code has it: a slice's length is below where a sum stops
 pub lent_tested : (n : ℕ) (needed lengths frames contents : List ℕ) → length frames < 2 ^ 64 - 1
-    → (same lengths needed && eqb (min (sum needed) (2 ^ 64 - 1)) (length frames) && eqb (n * length needed) (length contents))
-    ≡ is_lent n needed lengths frames contents
+    → is_lent n needed lengths frames contents
+    ≡ (pointwise eqb lengths needed && eqb (min (sum needed) (2 ^ 64 - 1)) (length frames) && eqb (n * length needed) (length contents))
 unfolding is_lent
 lent_tested n needed lengths frames contents h =
-    rw (stopped (sum needed) (length frames) h)
-    (and_assoc (same lengths needed) (eqb (sum needed) (length frames)) (eqb (n * length needed) (length contents)))
+    rw (← stopped (sum needed) (length frames) h, same_pointwise lengths needed)
+    (sym (and_assoc (pointwise eqb lengths needed) (eqb (min (sum needed) (2 ^ 64 - 1)) (length frames)) (eqb (n * length needed) (length contents))))
 
 -- what is lent has the lengths that it should
 pub lent-lengths : (n : ℕ) (needed lengths frames contents : List ℕ) → is_lent n needed lengths frames contents ≡ true

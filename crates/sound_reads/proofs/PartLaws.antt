@@ -6,6 +6,7 @@ use mathlib.Core.List.{List, [], ◌∷◌, ◌++◌, map, flat_map, append-nil,
 use Prim.Native.Nat.{ℕ, zero, suc, ◌+◌, ◌-◌, ◌≤◌, ◌<◌, min}
 use native.Mathlib.Omega.{arith}
 use borrow.Author.Tests.{lt-ltb, le-ltb}
+use Rattle.std.specs.Prelude.{Option, Some}
 use lib.Dec.{ltb}
 use lib.ListN.{length, take, drop, length-append, length-drop, length-map, drop_of_length-le, take-append-drop}
 use lib.Seq.{drop-append-add, drop-nil, take-take, slice}
@@ -17,13 +18,11 @@ use Rattle.sound_reads.specs.declared.place.Positions.{Positions}
 use Rattle.dst.specs.Start.{sum, start}
 use Rattle.sound_reads.specs.Place.{place_of}
 use Rattle.sound_reads.specs.Positions.{positions_for, between}
-use Rattle.sound_reads.specs.declared.lent.Fill.{Fill}
-use Rattle.sound_reads.specs.declared.lent.Fill.TheVariants.{Filled}
 use Rattle.window.specs.Window.{shown, after, Wrote}
 use Rattle.sound_reads.specs.Fill.{Filling}
 use Rattle.dst.proofs.StartLaws.{start_all, start_mono}
 use Rattle.sound_reads.proofs.PlaceLaws.{found, position-is, position-end}
-use Rattle.sound_reads.proofs.PositionsLaws.{Nothing, Some, positions_are, positions_none}
+use Rattle.sound_reads.proofs.PositionsLaws.{Nothing, Something, positions_are, positions_none}
 use Rattle.window.proofs.WindowLaws.{drop-append}
 
 -- Bytes at the place w, of which a part at the place v is all that is wanted: the same is shown, and as many bytes are written.
@@ -126,7 +125,7 @@ module _ {A : Type 0} (f : A → List ℕ) where
       ∙ append_assoc (flat_map f (take first xs)) (flat_map f (slice first end xs)) (flat_map f (drop end xs))
 
   module _ (xs : List A) (ss : List ℕ) (given : unit_sizes xs ≡ ss) (w : Window) (out : List ℕ)
-      (cases : Nothing ss w.skip (length out - w.at) ⊎ Some ss w.skip (length out - w.at)) where
+      (cases : Nothing ss w.skip (length out - w.at) ⊎ Something ss w.skip (length out - w.at)) where
     abbrev pub needed : Positions
     needed = positions_for ss w.skip (length out - w.at)
 
@@ -158,7 +157,7 @@ module _ {A : Type 0} (f : A → List ℕ) where
         let c = before-is end in
         omega arith
 
-    part-touched : Some ss w.skip (length out - w.at) → Part (flat_map f xs) (flat_map f (between needed xs)) w begin out
+    part-touched : Something ss w.skip (length out - w.at) → Part (flat_map f xs) (flat_map f (between needed xs)) w begin out
     part-touched s =
         let first = s.first in
         let end = suc s.last in
@@ -197,23 +196,23 @@ module _ {A : Type 0} (f : A → List ℕ) where
     -- the units that are needed are put, and the place after the sound is handed on
     pub part_filled : {last : List ℕ} {v : Window} (n : ℕ) → length ss ≡ n → Wrote (flat_map f (between needed xs)) begin out last v
         → Filling true (flat_map f xs) w out last
-        (Filled (record { at = v.at; skip = cond (ltb (place_of ss w.skip).position n) 0 (place_of ss w.skip).within }))
+        (Some (record { at = v.at; skip = cond (ltb (place_of ss w.skip).position n) 0 (place_of ss w.skip).within }))
     unfolding after
     part_filled n e q =
         record {
-          answer = ap₂ (λ (x y : ℕ). Filled (record { at = x; skip = y })) (ap (λ (u : Window). u.at) q.place ∙ sym part.count) (left_after n e);
+          answer = ap₂ (λ (x y : ℕ). Some (record { at = x; skip = y })) (ap (λ (u : Window). u.at) q.place ∙ sym part.count) (left_after n e);
           buffer = q.filled ∙ sym part.same;
         }
 
   -- units that a read does not need make no difference
   pub part_real : (xs ys : List A) (ss : List ℕ) → unit_sizes xs ≡ ss → unit_sizes ys ≡ ss → (w : Window) (out : List ℕ)
-      → Nothing ss w.skip (length out - w.at) ⊎ Some ss w.skip (length out - w.at)
+      → Nothing ss w.skip (length out - w.at) ⊎ Something ss w.skip (length out - w.at)
       → flat_map f (between (positions_for ss w.skip (length out - w.at)) xs) ≡ flat_map f (between (positions_for ss w.skip (length out - w.at)) ys)
-      → {last : List ℕ} {r : Fill} → Filling true (flat_map f xs) w out last r → Filling true (flat_map f ys) w out last r
+      → {last : List ℕ} {r : Option Window} → Filling true (flat_map f xs) w out last r → Filling true (flat_map f ys) w out last r
   part_real xs ys ss ex ey w out cases e q =
       let l : length (flat_map f xs) ≡ length (flat_map f ys) = length-joined xs ∙ ap sum (ex ∙ sym ey) ∙ sym (length-joined ys) in
       record {
-        answer = q.answer ∙ ap (λ (n : ℕ). Filled (after n (length out) w)) l;
+        answer = q.answer ∙ ap (λ (n : ℕ). Some (after n (length out) w)) l;
         buffer =
             q.buffer
             ∙ (part xs ss ex w out cases).same

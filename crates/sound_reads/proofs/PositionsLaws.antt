@@ -99,13 +99,13 @@ module _ (ss : List ℕ) (from count : ℕ) where
       (λ i h. ⊎_elim (λ z. idle i z) (λ l. let m = start_mono ss (suc i) (length ss) h in apart i (omega arith)) e))
 
   -- units from a first to a last
-  pub record Some : Type 0 where
+  pub record Something : Type 0 where
     pub first : ℕ
     pub last : ℕ
     pub touch : Touch first last
 
   -- the needed positions are positions of the sound
-  pub positions_known : Nothing ⊎ Some → ((positions_for ss from count).first ≤ (positions_for ss from count).end) × ((positions_for ss from count).end ≤ length ss)
+  pub positions_known : Nothing ⊎ Something → ((positions_for ss from count).first ≤ (positions_for ss from count).end) × ((positions_for ss from count).end ≤ length ss)
   positions_known =
       ⊎_elim
       (λ e. rw (positions_none e) (omega arith, omega arith))
@@ -116,7 +116,7 @@ module _ (ss : List ℕ) (from count : ℕ) where
       rw (positions_are t) (omega arith, omega arith))
 
   some : (f : Found ss from) → 0 < count → (last : ℕ) → last < length ss → start ss last ≤ from + (count - 1) → start ss last < start ss (suc last)
-      → (from + count ≤ start ss (suc last)) ⊎ (suc last ≡ length ss) → Some
+      → (from + count ≤ start ss (suc last)) ⊎ (suc last ≡ length ss) → Something
   some f c last k l z u =
       let low = f.low in
       let high = f.high in
@@ -137,7 +137,7 @@ module _ (ss : List ℕ) (from count : ℕ) where
     grows : (i : ℕ) → i < length ss → start ss i < start ss (suc i)
     grows i h = let e = start-suc ss i h in let z = sized i h in omega arith
 
-    from_found : (f : Found ss from) → 0 < count → Some
+    from_found : (f : Found ss from) → 0 < count → Something
     from_found f c =
         let known = f.known in
         ⊎_elim
@@ -148,28 +148,15 @@ module _ (ss : List ℕ) (from count : ℕ) where
         some f c (length ss - 1) (omega arith) (omega arith) (grows (length ss - 1) (omega arith)) (inr n))
         (found ss (from + (count - 1)))
 
-    pub touching : Nothing ⊎ Some
+    pub touching : Nothing ⊎ Something
     touching =
         ⊎_elim
         (λ f. ⊎_elim (λ c. inr (from_found f c)) (λ z. inl (inl (omega arith))) (lt-or-le 0 count))
         (λ l. inl (inr l))
         (found ss from)
 
--- the test for nothing to be touched: no byte is wanted, or the place is past the last of n positions
-pub none-touched : (ss : List ℕ) (a : Place) (count n : ℕ) → length ss ≡ n → eqb count 0 || leb n a.position ≡ true
+-- nothing is touched if no byte is wanted, or if the place is past the last position
+pub none-touched : (ss : List ℕ) (a : Place) (count : ℕ) → (count ≡ 0) ⊎ (length ss ≤ a.position)
     → record { first = 0; end = 0 } ≡ positions_for ss (byte_at ss a) count
-none-touched ss a count n e h =
-    sym
-    (positions_none ss (byte_at ss a) count
-    (⊎_elim
-    (λ z. inl (eqb-true count 0 z))
-    (λ l.
-    let k = leb-true n a.position l in
-    let m = start_mono ss (length ss) a.position (omega arith) in
-    inr (omega arith))
-    (either (eqb count 0) (leb n a.position) h)))
-
-pub some-touched : (count n position : ℕ) → eqb count 0 || leb n position ≡ false → (0 < count) × (position < n)
-some-touched count n position h =
-    let t = neither (eqb count 0) (leb n position) h in
-    (⊎_elim (λ l. l) (λ z. absurd (eqb-false count 0 t.0 (omega arith))) (lt-or-le 0 count), leb-false n position t.1)
+none-touched ss a count h =
+    sym (positions_none ss (byte_at ss a) count (⊎_elim inl (λ l. let m = start_mono ss (length ss) a.position l in inr (omega arith)) h))

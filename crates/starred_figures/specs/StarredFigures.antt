@@ -14,9 +14,9 @@ use Rattle.prop.specs.Property.{content_of, property_chunks}
 use Rattle.prop_fields.specs.declared.compression.Sound.{Sound}
 use Rattle.prop_fields.specs.declared.compression.Sound.TheVariants.{Dsd, Dst}
 use Rattle.prop_fields.specs.declared.layout.Layout.TheVariants.{Stereo}
-use Rattle.prop_fields.specs.declared.start.Start.{Start}
-use Rattle.prop_fields.specs.declared.start.Start.TheVariants.{Absent, Given}
-use Rattle.refusal.specs.declared.verdict.Verdict.TheVariants.{Accepted, Refused}
+use Rattle.prop_fields.specs.Start.{Start}
+use Rattle.std.specs.Prelude.{None, Some}
+use Rattle.std.specs.Prelude.{Ok, Err}
 use Rattle.build_options.specs.declared.options.Options.{Options}
 use Rattle.build_options.specs.Options.{defaults}
 use Rattle.build_options.specs.Inputs.{Inputs}
@@ -78,20 +78,20 @@ abbrev pub dsd : Inputs
 dsd = build Dsd 1 [] defaults
 
 abbrev pub dsd_d1 : Inputs
-dsd_d1 = build Dsd 1 [] (with true Absent ChunkHeader false)
+dsd_d1 = build Dsd 1 [] (with true None ChunkHeader false)
 
 abbrev pub dsd-from : ℕ → Inputs
-dsd-from frame = build Dsd 1 [] (with false (Given frame) ChunkHeader false)
+dsd-from frame = build Dsd 1 [] (with false (Some frame) ChunkHeader false)
 
 -- two frames of DST, of 3 and 4 bytes: the defaults; `FrameData`; CRC
 abbrev pub dst_default : Inputs
 dst_default = build Dst 2 (3 ∷ 4 ∷ []) defaults
 
 abbrev pub dst_data : Inputs
-dst_data = build Dst 2 (3 ∷ 4 ∷ []) (with false Absent FrameData false)
+dst_data = build Dst 2 (3 ∷ 4 ∷ []) (with false None FrameData false)
 
 abbrev pub dst-crc : Inputs
-dst-crc = build Dst 2 (3 ∷ 4 ∷ []) (with false Absent ChunkHeader true)
+dst-crc = build Dst 2 (3 ∷ 4 ∷ []) (with false None ChunkHeader true)
 
 -- the data sizes of PROP, CMPR and DST, the length of the file, the offset in entry i
 abbrev pub prop_size : Inputs → ℕ
@@ -132,7 +132,7 @@ pub record StarredFigures : Type 0 where
   pub crc-file : file_size dst-crc ≡ 258
   -- "Frame 6,479,999 is 23:59:59, 2,784,768 samples; start 6,479,998 with 1 position passes, 6,479,999 is 29"
   pub last_time : time_of 6_479_999 ≡ record { hours = 23; minutes = 59; seconds = 59; samples = 2_784_768 }
-  pub start-passes : verdict (dsd-from 6_479_998) ≡ Accepted
+  pub start-passes : verdict (dsd-from 6_479_998) ≡ Ok tt
   pub start-is-29 : verdict (dsd-from 6_479_999) ≡ Refused 29 0
   -- "CRC of byte 1 is 0x80000011; of nothing, 0"
   pub crc-one : crc_of (1 ∷ []) ≡ 0x8000_0011

@@ -12,21 +12,13 @@ impl Extent {
     pub fn first(self, pool: usize) -> usize
         ensures { result ≡ min self.start pool }
     {
-        let start = self.start as usize;
-        if start <= pool {
-            return start;
-        }
-        pool
+        (self.start as usize).min(pool)
     }
 
     // One past its last place there.
     pub fn end(self, pool: usize) -> usize
         ensures { result ≡ min (self.start + self.length) pool }
     {
-        let end = self.start as usize + self.length as usize;
-        if end <= pool {
-            return end;
-        }
-        pool
+        (self.start as usize + self.length as usize).min(pool)
     }
 }

@@ -26,41 +26,38 @@ pub struct TextOptions {
 
 impl TextOptions {
     // Whether a text of so many bytes is written.
+    #[tactic(auto, unfolding(crate::specs::Text::is_written))]
     pub fn writes(self, count: u32) -> bool
         ensures { result ≡ is_written self count }
     {
-        self.empty_text | (count != 0)
+        self.empty_text || count != 0
     }
 }
 
 // Whether a value is a text byte: 0x20 to 0x7E.
+#[tactic(auto, using(std::proofs::lemmas::Bool::Decides::nat_tests), unfolding(crate::specs::Text::printable))]
 pub fn printable(c: u32) -> bool
     ensures { result ≡ printable c }
 {
-    (0x20 <= c) & (c <= 0x7E)
+    matches!(c, 0x20..=0x7E)
 }
 
 // Whether D2 writes a value: 0x20 to 0x7E or 0xA0 to 0xFF.
+#[tactic(auto, using(std::proofs::lemmas::Bool::Decides::nat_tests), unfolding(crate::specs::Text::latin1))]
 fn latin1(c: u32) -> bool
     ensures { result ≡ latin1 c }
 {
-    printable(c) | ((0xA0 <= c) & (c <= 0xFF))
+    printable(c) || matches!(c, 0xA0..=0xFF)
 }
 
 // Whether a value is written as itself.
+#[tactic(auto, unfolding(crate::specs::Text::passes))]
 pub fn passes(rule: TextRule, c: u32) -> bool
     ensures { result ≡ passes rule c }
 {
     match rule {
-        TextRule::Replace(_) => {
-            return printable(c);
-        }
-        TextRule::Remove => {
-            return printable(c);
-        }
-        TextRule::D2 => {
-            return latin1(c);
-        }
+        TextRule::Replace(_) | TextRule::Remove => printable(c),
+        TextRule::D2 => latin1(c),
     }
 }
 
@@ -68,19 +65,15 @@ pub fn passes(rule: TextRule, c: u32) -> bool
 pub fn text_count(rule: TextRule, pool: &[u32], text: Extent) -> u32
     ensures { result ≡ length (text_bytes rule (part pool.now text)) }
 {
-    let mut empty = [0u8; 0];
-    let c = Cursor::new();
-    let end = text_bytes(c, &mut empty, rule, pool, text);
-    end.at as u32
+    text_bytes(Cursor::new(), &mut [], rule, pool, text).at as u32
 }
 
 // A text's bytes.
 pub fn text_bytes(c: Cursor, out: &mut [u8], rule: TextRule, pool: &[u32], text: Extent) -> Cursor
     ensures { Appended out.old c.at (text_bytes rule (part pool.now text)) out.new result.at }
 {
-    let first = text.first(pool.len());
-    let end = text.end(pool.len());
-    text_values(c, out, rule, &pool[first..end])
+    let part = &pool[text.first(pool.len())..text.end(pool.len())];
+    text_values(c, out, rule, part)
 }
 
 // A text with its count, which the caller has measured.
@@ -94,56 +87,50 @@ pub fn counted_text(
 ) -> Cursor
     ensures { Appended out.old c.at (be 4 count ++ text_bytes rule (part pool.now text)) out.new result.at }
 {
-    let c = c.be32(out, count);
-    text_bytes(c, out, rule, pool, text)
+    text_bytes(c.be32(out, count), out, rule, pool, text)
 }
 
 // The pad after a text of so many bytes, if it is counted.
+#[tactic(auto, using(chunk::proofs::AppendLaws::none), unfolding(crate::specs::Text::text_pad))]
 pub fn text_pad(c: Cursor, out: &mut [u8], count: u32, options: TextOptions) -> Cursor
     ensures { Appended out.old c.at (text_pad options count) out.new result.at }
 {
     if options.text_pad_counted {
-        return c.pad(out, count as u64);
+        c.pad(out, count as u64)
+    } else {
+        c
     }
-    c
 }
 
 // The bytes of values, one value after the other.
-fn text_values(c: Cursor, out: &mut [u8], rule: TextRule, values: &[u32]) -> Cursor
+fn text_values(mut c: Cursor, out: &mut [u8], rule: TextRule, values: &[u32]) -> Cursor
     ensures { Appended out.old c.at (text_bytes rule values.now) out.new result.at }
 {
-    let mut c = c;
-    let mut i = 0;
-    while i < values.len() {
-        c = text_byte(c, out, rule, values[i]);
-        i += 1;
+    for value in values {
+        c = text_byte(c, out, rule, *value);
     }
     c
 }
 
 // One value: one byte or none.
+#[tactic(auto, using(crate::proofs::TextLaws::passes_byte), unfolding(crate::specs::Text::text_byte))]
 fn text_byte(c: Cursor, out: &mut [u8], rule: TextRule, value: u32) -> Cursor
     ensures { Appended out.old c.at (text_byte rule value) out.new result.at }
 {
     if passes(rule, value) {
-        return c.byte(out, value as u8);
+        c.byte(out, value as u8)
+    } else {
+        substitute(c, out, rule)
     }
-    substitute(c, out, rule)
 }
 
 // What stands for a value that does not pass.
+#[tactic(auto, using(chunk::proofs::AppendLaws::none), unfolding(crate::specs::Text::substitute))]
 fn substitute(c: Cursor, out: &mut [u8], rule: TextRule) -> Cursor
     ensures { Appended out.old c.at (substitute rule) out.new result.at }
 {
     match rule {
-        TextRule::Replace(b) => {
-            return c.byte(out, b);
-        }
-        TextRule::Remove => {
-            return c;
-        }
-        TextRule::D2 => {
-            return c;
-        }
+        TextRule::Replace(b) => c.byte(out, b),
+        TextRule::Remove | TextRule::D2 => c,
     }
 }

@@ -1,13 +1,14 @@
 -- The laws of specs/Window.antt: pieces that are put one after the other. Assumes nothing.
 use mathlib.Core.Path.{◌≡◌, refl, sym, ap, ap₂, ◌∙◌}
 use mathlib.Core.Logic.{◌⊎◌, inl, inr, ⊎_elim}
-use mathlib.Core.List.{List, [], ◌∷◌, ◌++◌, append-nil, append_assoc}
-use Prim.Native.Nat.{ℕ, zero, suc, ◌+◌, ◌-◌, ◌^◌, ◌%◌, ◌≤◌, ◌<◌, min}
-use native.Mathlib.Nat.{add_assoc, add-zero, zero-add, mod-lt}
+use mathlib.Core.List.{List, [], ◌∷◌, ◌++◌, append-nil}
+use Prim.Native.Nat.{ℕ, zero, suc, ◌+◌, ◌-◌, ◌%◌, ◌≤◌, ◌<◌, min}
+use native.Mathlib.Nat.{add_assoc, mod-lt}
 use native.Mathlib.Omega.{arith, sub_cases}
-use borrow.Rule.Slice.PartMut.{mid_of, put_mid}
-use lib.ListN.{length, take, drop, replicate, length-append, length-drop, drop_of_length-le}
-use lib.Seq.{take-add, take_at, drop_at, drop-drop, drop-nil, length-take-le}
+use borrow.Rule.Slice.PartMut.{mid_of}
+use lib.ListN.{length, drop, replicate, length-append, length-drop, drop_of_length-le}
+use Rattle.std.proofs.lemmas.List.{drop_min}
+use lib.Seq.{drop-nil}
 use mathlib.Core.Bool.{true, ◌||◌}
 use borrow.Author.Tests.{eqb-true, leb-true}
 use lib.Dec.{lit<, eqb, leb}
@@ -16,8 +17,8 @@ use Rattle.chunk.proofs.NumberLaws.{length-be}
 use Rattle.chunk.proofs.ChunkLaws.{pad-even}
 use Rattle.chunk.specs.Append.{overlay, Appended}
 use Rattle.chunk.specs.Chunk.{pad, chunk}
-use Rattle.chunk.proofs.AppendLaws.{length-overlay, overlay-out, overlay-append, overlay-room, copied, ◌then◌ as append}
-use Rattle.chunk.proofs.TailLaws.{overlay-apart, overlay_tail, tail_lent, tail_back}
+use Rattle.chunk.proofs.AppendLaws.{length-overlay, overlay-out, overlay-append, overlay-room, kept, ◌then◌ as append}
+use Rattle.chunk.proofs.TailLaws.{overlay-apart, tail_lent}
 use Rattle.window.specs.declared.window.Window.{Window}
 use Rattle.window.specs.Window.{shown, after, Wrote}
 use Rattle.window.proofs.TestLaws.{either, lt-or-le}
@@ -70,10 +71,6 @@ next_place xs a A B =
     ∙ overlay-append xs a A B)
     (λ h. let e : min (length A) (length xs - a) ≡ length A = omega arith in rw e (overlay-append xs a A B))
     (lt-or-le (length xs - a) (length A))
-
-pub length-shown : (bytes : List ℕ) (w : Window) (out : List ℕ) → length (shown bytes w out) ≡ length out
-unfolding shown
-length-shown bytes w out = length-overlay out w.at (drop w.skip bytes)
 
 infixl 5 ◌then◌
 -- a piece and then another are the two pieces joined
@@ -134,73 +131,13 @@ unseen bytes w out h =
       place = ap (λ (x : ℕ). record { at = x; skip = w.skip - length bytes }) a;
     }
 
--- a piece that is put into `&mut out[at..]`
-pub tail_put : {bytes : List ℕ} {at skip : ℕ} {out part : List ℕ} {v : Window} → at ≤ length out
-    → Wrote bytes (record { at = 0; skip = skip }) (mid_of at (length out - at) out) part v
-    → Wrote bytes (record { at = at; skip = skip }) out (put_mid at (length out - at) out part) (record { at = at + v.at; skip = v.skip })
-unfolding shown after
-tail_put {bytes} {at} {skip} {out} {part} {v} h p =
-    let e = tail_lent at out in
-    let l : length (drop at out) ≡ length out - at = length-drop at out in
-    let f : part ≡ overlay (drop at out) 0 (drop skip bytes) = rw e at p.filled in
-    let n : 0 + min (length bytes - skip) (length (drop at out) - 0) ≡ min (length bytes - skip) (length out - at) = rw l (omega arith) in
-    record {
-      filled = rw (tail_back at out part, f, overlay_tail at 0 out (drop skip bytes), add-zero);
-      place = rw (p.place, e, n);
-    }
-
--- so many bytes are in `&xs[i..]`
-pub tail_long : (i k : ℕ) (xs : List ℕ) → k ≤ length xs - i → k ≤ length (mid_of i (length xs - i) xs)
-tail_long i k xs h = rw (tail_lent i xs, length-drop i xs) h
-
--- k bytes more are copied, from `&src[i..]` to `&mut mid[i..]`
-pub copied_on : (i k : ℕ) (out src mid part : List ℕ) → i ≤ length src → mid ≡ take i src ++ drop i out
-    → part ≡ take k (mid_of i (length src - i) src) ++ drop k (mid_of i (length mid - i) mid)
-    → put_mid i (length mid - i) mid part ≡ take (i + k) src ++ drop (i + k) out
-copied_on i k out src mid part h e f =
-    let l = length-take-le i src h in
-    let t : take i mid ≡ take i src = ap (take i) e ∙ take_at (take i src) (drop i out) i l in
-    let d : drop i mid ≡ drop i out = ap (drop i) e ∙ drop_at (take i src) (drop i out) i l in
-    let g : part ≡ take k (drop i src) ++ drop k (drop i out) = rw (f, tail_lent i src, tail_lent i mid, d) in
-    tail_back i mid part
-    ∙ rw (t, g, drop-drop k i out, take-add i k src) (sym (append_assoc (take i src) (take k (drop i src)) (drop (i + k) out)))
-
--- k bytes, copied by way of another buffer
-pub copied_through : (k : ℕ) (src block rest out : List ℕ) → k ≤ length src → block ≡ take k src ++ rest → take k block ++ drop k out ≡ take k src ++ drop k out
-copied_through k src block rest out h e = ap (λ (l : List ℕ). l ++ drop k out) (ap (take k) e ∙ take_at (take k src) rest k (length-take-le k src h))
-
--- its end is within the buffer
-pub tail_fits : {bytes : List ℕ} {at skip : ℕ} (out : List ℕ) {part : List ℕ} {v : Window} → at ≤ length out
-    → Wrote bytes (record { at = 0; skip = skip }) (mid_of at (length out - at) out) part v → at + v.at ≤ length out
-unfolding after
-tail_fits {bytes} {at} {skip} out {part} {v} h p =
-    let l : length (mid_of at (length out - at) out) ≡ length out - at = ap length (tail_lent at out) ∙ length-drop at out in
-    rw p.place (omega arith)
-
-plain : (n a o : ℕ) → n ≡ min a o → n ≡ 0 + min a (o - 0)
-plain n a o h = omega arith
-
-gone : (a b : ℕ) → a < b → 0 ≡ a - b
-gone a b h = omega arith
-
--- n bytes are copied, out of `&piece[skip..]`
-pub copied-out : {piece : List ℕ} {skip : ℕ} {out last : List ℕ} {n : ℕ} → length out < 2 ^ 63 → length piece < 2 ^ 63 → skip < length piece
-    → n ≡ min (length (mid_of skip (length piece - skip) piece)) (length out)
-    → last ≡ take n (mid_of skip (length piece - skip) piece) ++ drop n out
-    → Wrote piece (record { at = 0; skip = skip }) out last (record { at = n; skip = 0 })
-unfolding shown after
-copied-out {piece} {skip} {out} {last} {n} ho hp h e f =
-    let t = tail_lent skip piece in
-    let l : length (drop skip piece) ≡ length piece - skip = length-drop skip piece in
-    let i : n ≡ min (length (drop skip piece)) (length out) = rw t at e in
-    let m : n ≡ min (length (drop skip piece)) (length out - 0) = omega arith in
-    let g : last ≡ take n (drop skip piece) ++ drop (0 + n) out = rw (zero-add, ← t) f in
-    let k : n ≡ 0 + min (length piece - skip) (length out - 0) = plain n (length piece - skip) (length out) (rw l at i) in
-    let z = gone skip (length piece) h in
-    record {
-      filled = (copied n {xs = out} {bs = drop skip piece} {a = 0} ho m g refl).buffer;
-      place = ap₂ (λ (x y : ℕ). record { at = x; skip = y }) k z;
-    }
+-- a piece, less what is skipped of it, appended at the place
+pub put_piece : {piece out last : List ℕ} {w v : Window} {k b : ℕ} → k ≡ min w.skip (length piece) → Appended out w.at (mid_of k (length piece - k) piece) last b
+    → v ≡ after (length piece) (length last) w → Wrote piece w out last v
+unfolding shown
+put_piece {piece} {out} {w = w} {k = k} e p place =
+    let rest : mid_of k (length piece - k) piece ≡ drop w.skip piece = tail_lent k piece ∙ ap (λ (n : ℕ). drop n piece) e ∙ drop_min w.skip piece in
+    record { filled = p.buffer ∙ ap (overlay out w.at) rest; place = rw (kept p) at place }
 
 bit : (k : ℕ) → k < 2 → mid_of {X = ℕ} 0 (k - 0) (0 ∷ []) ≡ replicate k 0
 bit zero h = refl

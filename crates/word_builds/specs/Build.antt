@@ -1,9 +1,9 @@
 -- THE PROMISE OF A BUILD FROM WORDS: that of a build, but that a fault of the words refuses first. Assumes nothing.
 use Rattle.std.specs.Prelude.{List, ℕ}
 use Rattle.refusal.specs.Verdict.{or_else}
-use Rattle.refusal.specs.declared.verdict.Verdict.{Verdict}
+use Rattle.refusal.specs.Verdict.{Verdict}
 use Rattle.build_options.specs.Inputs.{Inputs}
-use Rattle.build_answer.specs.declared.answer.Answer.{Answer}
+use Rattle.build_answer.specs.Answer.{Answer}
 use Rattle.assemble.specs.Build.{build_verdict, Outcome}
 
 -- of words with the fault f that mean the inputs x; without a fault it is `Builds x h h' t t' r` itself

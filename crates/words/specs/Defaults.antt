@@ -7,7 +7,7 @@ use Rattle.prop_fields.specs.declared.layout.Layout.TheVariants.{Stereo}
 use Rattle.build_options.specs.Inputs.{Inputs}
 use Rattle.build_options.specs.Options.{defaults}
 use Rattle.build_options.specs.declared.area.Area.{Area}
-use Rattle.refusal.specs.declared.verdict.Verdict.TheVariants.{Accepted}
+use Rattle.std.specs.Prelude.{Ok}
 use Rattle.words.specs.Border.{words_fault}
 use Rattle.words.specs.Inputs.{inputs_of_words}
 
@@ -40,7 +40,7 @@ no_area = record { sound = Dsd; playtime = 0; channels = 0; layout = Stereo; fir
 
 -- THE DEFAULT WORDS ARE THE DEFAULTS: the words themselves have no fault, and the inputs that they mean have the default options and orders
 pub record Defaults (x : Inputs) : Type 0 where
-  pub no_fault : words_fault default_words ≡ Accepted
+  pub no_fault : words_fault default_words ≡ Ok tt
   pub area : x.area ≡ no_area
   pub options : x.options ≡ defaults
   pub property_order_lem : x.property_order ≡ property_order

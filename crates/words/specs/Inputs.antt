@@ -1,8 +1,9 @@
 -- What the words of a build's inputs mean. Words that are too wide for their field, or that name nothing, are refused before (specs/Border.antt); without such a fault each field is its
 -- word (specs/Exact.antt). Assumes nothing.
-use Rattle.std.specs.Prelude.{ℕ, List, [], ◌∷◌}
+use Rattle.std.specs.Prelude.{Option, None, Some, cond, ℕ, List, [], ◌∷◌}
 use Rattle.prop_fields.specs.declared.layout.ChannelNumbers.{ChannelNumbers}
 use Rattle.build_options.specs.Inputs.{Inputs}
+use Rattle.build_options.specs.declared.inputs.Lent.{Lent}
 use Rattle.build_options.specs.declared.area.Area.{Area}
 use Rattle.build_options.specs.declared.options.Options.{Options}
 use Rattle.meanings.specs.Sound.{offset_of}
@@ -23,13 +24,14 @@ area_of w = record {
   end = word_of w 5;
 }
 
+-- words 8 to 13, each by its low half
+abbrev pub halves_of : List ℕ → List ℕ
+halves_of w = half_of w 8 ∷ half_of w 9 ∷ half_of w 10 ∷ half_of w 11 ∷ half_of w 12 ∷ half_of w 13 ∷ []
+
 -- words 6 to 13
-unfoldable pub channel_numbers_of : List ℕ → ChannelNumbers
-channel_numbers_of w = record {
-  given = is_set w 6;
-  count = word_of w 7;
-  numbers = half_of w 8 ∷ half_of w 9 ∷ half_of w 10 ∷ half_of w 11 ∷ half_of w 12 ∷ half_of w 13 ∷ [];
-}
+unfoldable pub channel_numbers_of : List ℕ → Option ChannelNumbers
+channel_numbers_of w =
+    cond (is_set w 6) (Some (record { count = word_of w 7; numbers = halves_of w })) None
 
 -- words 6 to 51
 unfoldable pub choices_of : List ℕ → Options
@@ -79,3 +81,8 @@ inputs_of_words w pool raw tracks markers comments callers lengths = record {
   callers = callers;
   lengths = lengths;
 }
+
+-- the same of what is lent as one
+abbrev pub told : List ℕ → Lent → Inputs
+told w l =
+    inputs_of_words w l.pools.text.now l.pools.bytes.now l.tracks.now l.markers.now l.comments.now l.callers.now l.lengths.now

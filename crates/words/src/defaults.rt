@@ -1,5 +1,5 @@
 // The words of a build before anything is told.
-ghost use Rattle.std.specs.Prelude.{◌≡◌, min};
+ghost use Rattle.std.specs.Prelude.{◌≡◌};
 ghost use Rattle.chunk.specs.Append.{Appended};
 ghost use Rattle.words.specs.Defaults.{default_words};
 
@@ -16,26 +16,12 @@ pub fn default_words() -> [u32; 67]
     DEFAULTS
 }
 
-// How many of the 67 words fit.
-fn fitting(room: usize) -> usize
-    ensures { result ≡ min 67 room }
-{
-    if room < 67 {
-        return room;
-    }
-    67
-}
-
 // The default words into a list, as many as fit; the answer is how many a build has.
 pub fn fill_defaults(words: &mut [u32]) -> usize
     ensures { Appended words.old 0 default_words words.new result }
 {
     let defaults = default_words();
-    let n = fitting(words.len());
-    let mut i: usize = 0;
-    while i < n {
-        words[i] = defaults[i];
-        i += 1;
-    }
+    let n = words.len().min(67);
+    words[..n].copy_from_slice(&defaults[..n]);
     67
 }

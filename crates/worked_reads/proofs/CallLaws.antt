@@ -11,11 +11,11 @@ use Rattle.chunk.specs.Append.{overlay}
 use Rattle.chunk.proofs.AppendLaws.{length-overlay, overlay-out, overlay-append, overlay-room}
 use Rattle.tree.specs.Gather.{Read, refused, accepted, window, covered}
 use Rattle.dst.specs.Frame.{Frame}
-use Rattle.refusal.specs.declared.verdict.Verdict.{Verdict}
+use Rattle.refusal.specs.Verdict.{Verdict}
 use Rattle.refusal.specs.declared.verdict.Verdict.TheVariants as verdict
 use Rattle.window.specs.Window.{shown}
 use Rattle.window.proofs.TestLaws.{lt-or-le}
-use Rattle.read_answer.specs.declared.answer.ReadAnswer.{ReadAnswer}
+use Rattle.read_answer.specs.Answer.{ReadAnswer}
 use Rattle.read_answer.specs.declared.answer.ReadAnswer.TheVariants.{Filled, Refused}
 use Rattle.file_read.specs.Read.{Request, read_verdict, file_with, Reading, Reads}
 use Rattle.old_readers.specs.Premises.{AcceptedBuild, Call, WasGiven, IfAccepted, AllGiven, read_by, reads_of}

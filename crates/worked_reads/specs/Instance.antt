@@ -11,7 +11,7 @@ use Rattle.tree.specs.Gather.{window, Holds}
 use Rattle.dst.specs.Frame.{Frame}
 use Rattle.build_options.specs.Inputs.{Inputs}
 use Rattle.file_tree.specs.File.{header_of, trailer_of, file_of}
-use Rattle.read_answer.specs.declared.answer.ReadAnswer.{ReadAnswer}
+use Rattle.read_answer.specs.Answer.{ReadAnswer}
 use Rattle.read_answer.specs.declared.answer.ReadAnswer.TheVariants.{Filled, Refused}
 use Rattle.file_read.specs.Read.{Request}
 use Rattle.old_readers.specs.Premises.{AcceptedBuild, Call, Recorded, AllGiven}

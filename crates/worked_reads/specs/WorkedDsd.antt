@@ -4,7 +4,7 @@ use Rattle.std.specs.Prelude.{true, false, List, [], ◌∷◌, ◌++◌, ℕ, �
 use Rattle.chunk.specs.Number.{num}
 use Rattle.chunk_names.specs.Name.{ascii, property_order, info_order, local_order}
 use Rattle.tree.specs.Reader.{Report}
-use Rattle.diin_texts.specs.declared.diin_text.Text.TheVariants.{Given}
+use Rattle.std.specs.Prelude.{Some}
 use Rattle.prop_fields.specs.declared.compression.Sound.TheVariants.{Dsd}
 use Rattle.prop_fields.specs.declared.layout.Layout.TheVariants.{Stereo}
 use Rattle.build_options.specs.declared.options.Options.{Options}

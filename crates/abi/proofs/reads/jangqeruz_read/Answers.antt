@@ -3,7 +3,7 @@ use mathlib.Core.Path.{◌≡◌, subst}
 use mathlib.Core.List.{List}
 use Prim.Native.Nat.{ℕ}
 use Rattle.read_rules.specs.declared.format.SoundFormat.{SoundFormat}
-use Rattle.read_answer.specs.declared.answer.ReadAnswer.{ReadAnswer}
+use Rattle.read_answer.specs.Answer.{ReadAnswer}
 use Rattle.file_read.specs.Read.{request_of, Reads}
 use Rattle.abi.proofs.reads.jangqeruz_read.Goals as goal
 

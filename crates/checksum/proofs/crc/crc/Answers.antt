@@ -1,32 +1,35 @@
 -- The goals that a check leaves.
-use mathlib.Core.Path.{ap₂, ◌∙◌}
-use Prim.Native.Nat.{ℕ, ◌≤◌, ◌<◌}
-use native.Mathlib.Omega.{arith}
-use lib.ListN.{length, drop, drop_of_length-le}
+use Rattle.std.proofs.Common.{◌≡◌, ap₂, ◌∙◌, ℕ, ◌≤◌, ◌/◌, arith, length, Bor, List, ◌++◌}
+use Rattle.std.specs.List.{concat}
+use Rattle.std.proofs.Math.ListN.{drop_of_length-le}
 use Rattle.checksum.specs.Crc.{bytes_of, crc_of}
 use Rattle.checksum.proofs.CrcTable.{rule}
-use Rattle.checksum.proofs.RingLaws.{step}
+use Rattle.checksum.proofs.RingLaws.{step, words_joined, words_first}
 use Rattle.checksum.proofs.crc.crc.Goals as goal
-use Rattle.checksum.proofs.crc.crc.Goals.{then-n-ge-SHORT, else-n-ge-SHORT}
+use Rattle.checksum.proofs.crc.crc.Goals.{then-whole-ge-SHORT, else-whole-ge-SHORT}
 
 pub words-r-requires : goal.words-r-requires
-words-r-requires c = (rule, omega arith)
+words-r-requires c = rule
 
-pub loop-i-init : goal.loop-i-init
+pub loop-byte-init : goal.loop-byte-init
 unfolding crc_of
-loop-i-init c = elim c.if-n-ge-SHORT.branch [
-  | then-n-ge-SHORT w ↦ (omega arith, ap₂ (λ (r i : ℕ). bytes_of r (drop i c.args.content.now)) w.r-is w.i-is ∙ w.words-r.ensures)
-  | else-n-ge-SHORT w ↦ (omega arith, ap₂ (λ (r i : ℕ). bytes_of r (drop i c.args.content.now)) w.r-is w.i-is)
+loop-byte-init c = elim c.if-whole-ge-SHORT.branch [
+  | then-whole-ge-SHORT w ↦
+      let all : concat c.as_chunks.result.0.now ++ c.if-whole-ge-SHORT.rest.now ≡ c.args.content.now =
+      rw (c.as_chunks.ensures.front, w.rest-is, c.as_chunks.ensures.back) (words_joined 8 (length c.args.content.now / 8) c.args.content.now) in
+      words_first c.args.content.now c.if-whole-ge-SHORT.r (concat c.as_chunks.result.0.now) c.if-whole-ge-SHORT.rest.now (w.r-is ∙ w.words-r.ensures) all
+  | else-whole-ge-SHORT w ↦ ap₂ (λ (r : ℕ) (b : Bor (List ℕ)). bytes_of r b.now) w.r-is w.rest-is
 ]
 
 pub next-r-requires : goal.next-r-requires
 next-r-requires c = rule
 
-pub loop-i-preserved : goal.loop-i-preserved
-loop-i-preserved c = let h : c.loop-i.i < length c.args.content.now = omega arith in
-    (omega arith, rw c.next-r.ensures (step c.args.content.now c.loop-i.i c.loop-i.r h ∙ c.loop-i.invariant.1))
+pub loop-byte-preserved : goal.loop-byte-preserved
+loop-byte-preserved c =
+    rw c.next-r.ensures (step c.if-whole-ge-SHORT.rest.now c.loop-byte.byte-index c.loop-byte.r c.loop-byte-test.true ∙ c.loop-byte.invariant)
 
 pub returns : goal.returns
 unfolding bytes_of
-returns c = let h : length c.args.content.now ≤ c.loop-i.i = omega arith in
-    rw drop_of_length-le at c.loop-i.invariant.1
+returns c =
+    let h : length c.if-whole-ge-SHORT.rest.now ≤ c.loop-byte.byte-index = omega arith in
+    rw drop_of_length-le at c.loop-byte.invariant

@@ -1,12 +1,7 @@
--- `crc::crc` meets its contract. The invariant: the bytes from i on, after the register r, give the CRC of the whole. Assumes nothing.
-use mathlib.Core.Path.{◌≡◌}
-use Prim.Native.Nat.{◌-◌, ◌≤◌}
-use lib.ListN.{length, drop}
+-- `crc::crc` meets its contract. The invariant: the bytes that are left, after the register r, give the CRC of the whole. Assumes nothing.
+use Rattle.std.proofs.Common.{◌≡◌, drop}
 use Rattle.checksum.specs.Crc.{bytes_of, crc_of}
 use Rattle.checksum.proofs.crc.crc.Given as goal
 
-abbrev pub invariant-loop-i : goal.invariant-loop-i
-invariant-loop-i l = (l.i ≤ length l.content) × (bytes_of l.r (drop l.i l.content) ≡ crc_of l.content)
-
-abbrev pub decreases-loop-i : goal.decreases-loop-i
-decreases-loop-i l = length l.content - l.i
+abbrev pub invariant-loop-byte : goal.invariant-loop-byte
+invariant-loop-byte l = bytes_of l.r (drop l.byte-index l.byte-items) ≡ crc_of l.content

@@ -33,31 +33,31 @@ known bytes n contents w out p e = rw e (wanted-known bytes n contents w out)
 pub locate-place-requires : goal.locate-place-requires
 locate-place-requires c = rw c.frame_bytes-frame.ensures (sound-short c.args.channels c.args.n c.ranges.channels.fits c.ranges.n.fits)
 
-pub touched-p-requires : goal.touched-p-requires
-touched-p-requires c = rw c.locate-place.ensures (inside (replicate c.args.n c.frame_bytes-frame.result) c.args.w.skip)
+pub touched-first-requires : goal.touched-first-requires
+touched-first-requires c = rw c.locate-place.ensures (inside (replicate c.args.n c.frame_bytes-frame.result) c.args.w.skip)
 
 pub overflow_sub-end : goal.overflow_sub-end
 overflow_sub-end c =
-    let k = known (frame_bytes c.args.channels) c.args.n c.args.contents.now c.args.w c.args.out.now _ (wanted _ _ _ _ _ _ _ _ c.frame_bytes-frame.ensures c.locate-place.ensures c.room-free.ensures c.touched-p.ensures) in
+    let k = known (frame_bytes c.args.channels) c.args.n c.args.contents.now c.args.w c.args.out.now _ (wanted _ _ _ _ _ _ _ _ c.frame_bytes-frame.ensures c.locate-place.ensures c.saturating_sub-free.ensures c.touched-first.ensures) in
     omega (arith, k.0)
 
 pub overflow_mul-frame : goal.overflow_mul-frame
 overflow_mul-frame c =
-    let k = known (frame_bytes c.args.channels) c.args.n c.args.contents.now c.args.w c.args.out.now _ (wanted _ _ _ _ _ _ _ _ c.frame_bytes-frame.ensures c.locate-place.ensures c.room-free.ensures c.touched-p.ensures) in
-    let m : c.frame_bytes-frame.result * number c.touched-p.result ≤ c.frame_bytes-frame.result * c.args.n = mul-le-mul_left c.frame_bytes-frame.result (omega (arith, k.0, k.1)) in
+    let k = known (frame_bytes c.args.channels) c.args.n c.args.contents.now c.args.w c.args.out.now _ (wanted _ _ _ _ _ _ _ _ c.frame_bytes-frame.ensures c.locate-place.ensures c.saturating_sub-free.ensures c.touched-first.ensures) in
+    let m : c.frame_bytes-frame.result * number c.touched-first.result ≤ c.frame_bytes-frame.result * c.args.n = mul-le-mul_left c.frame_bytes-frame.result (omega (arith, k.0, k.1)) in
     let s : c.frame_bytes-frame.result * c.args.n < 2 ^ 63 = rw c.frame_bytes-frame.ensures (sound-short c.args.channels c.args.n c.ranges.channels.fits c.ranges.n.fits) in
     omega (arith, m, s)
 
 pub returns-then-frame-end : goal.returns-then-frame-end
 returns-then-frame-end c =
-    let found = wanted _ _ _ _ _ _ _ _ c.frame_bytes-frame.ensures c.locate-place.ensures c.room-free.ensures c.touched-p.ensures in
+    let found = wanted _ _ _ _ _ _ _ _ c.frame_bytes-frame.ensures c.locate-place.ensures c.saturating_sub-free.ensures c.touched-first.ensures in
     let f : eqb (frame_bytes c.args.channels * number (positions_for (replicate c.args.n (frame_bytes c.args.channels)) c.args.w.skip (length c.args.out.now - c.args.w.at))) (length c.args.contents.now) ≡ false =
     rw (← found, ← c.frame_bytes-frame.ensures) (ne_eqb _ _ c.if-frame-end.true) in
     rw f (record { answer = refl; buffer = refl })
 
 pub returns : goal.returns
 returns c =
-    let found = wanted _ _ _ _ _ _ _ _ c.frame_bytes-frame.ensures c.locate-place.ensures c.room-free.ensures c.touched-p.ensures in
+    let found = wanted _ _ _ _ _ _ _ _ c.frame_bytes-frame.ensures c.locate-place.ensures c.saturating_sub-free.ensures c.touched-first.ensures in
     let g : frame_bytes c.args.channels * number (positions_for (replicate c.args.n (frame_bytes c.args.channels)) c.args.w.skip (length c.args.out.now - c.args.w.at)) ≡ length c.args.contents.now =
     rw (← found, ← c.frame_bytes-frame.ensures) c.if-frame-end.false in
     rw (eq-eqb _ _ g, c.filled.ensures, c.locate-place.ensures, c.frame_bytes-frame.ensures)

@@ -12,5 +12,5 @@ nonzero_div-result c = let h = frame-sized c.args.frame c.args.n c.args.place c.
 pub nonzero_rem-result : goal.nonzero_rem-result
 nonzero_rem-result c = let h = frame-sized c.args.frame c.args.n c.args.place c.if-all-place.false in search rules
 
-pub returns : goal.returns
-returns c = dsd_here c.args.frame c.args.n c.args.place c.if-all-place.false
+pub returns-else-all-place : goal.returns-else-all-place
+returns-else-all-place c = dsd_here c.args.frame c.args.n c.args.place c.if-all-place.false

@@ -7,6 +7,6 @@ pub returns-then-crc : goal.returns-then-crc
 unfolding plain_bytes
 returns-then-crc c = rw c.if-crc.true c.frame_bytes.ensures
 
-pub returns : goal.returns
+pub returns-else-crc : goal.returns-else-crc
 unfolding plain_bytes
-returns c = rw c.if-crc.false refl
+returns-else-crc c = rw c.if-crc.false refl

@@ -7,4 +7,4 @@ use Rattle.dst.proofs.head.head_sized.Goals as goal
 
 pub returns : goal.returns
 unfolding head_sized frte rate
-returns c = rw (← be-mod 4 c.args.frames, ← c.with_frte.ensures) (c.chunk_head-c1.ensures then c.frte.ensures)
+returns c = rw (← be-mod 4 c.args.frames, ← c.with_frte.ensures) (c.chunk_head-c.ensures then c.frte.ensures)

@@ -5,4 +5,4 @@ use Rattle.dst.proofs.head.rate.Goals as goal
 
 pub returns : goal.returns
 unfolding rate
-returns c = c.be32-c.ensures then c.be16.ensures
+returns c = c.be32.ensures then c.be16.ensures

@@ -12,6 +12,6 @@ pub returns-then-crc : goal.returns-then-crc
 unfolding unit_size occupied
 returns-then-crc c = rw c.if-crc.true (omega (arith, c.occupied-dstf.ensures))
 
-pub returns : goal.returns
+pub returns-else-crc : goal.returns-else-crc
 unfolding unit_size occupied
-returns c = rw c.if-crc.false (omega (arith, c.occupied-dstf.ensures))
+returns-else-crc c = rw c.if-crc.false (omega (arith, c.occupied-dstf.ensures))

@@ -5,4 +5,4 @@ use Rattle.dst_index.proofs.index.entry.Goals as goal
 
 pub returns : goal.returns
 unfolding entry
-returns c = c.be64-c1.ensures then c.be32.ensures
+returns c = c.be64.ensures then c.be32.ensures

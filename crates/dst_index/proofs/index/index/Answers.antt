@@ -13,20 +13,27 @@ use Rattle.dst.proofs.UnitLaws.{start-next}
 use Rattle.dst_index.proofs.IndexLaws.{joined-more}
 use Rattle.dst_index.proofs.index.index.Goals as goal
 
-pub loop-i-init : goal.loop-i-init
+pub loop-length-init : goal.loop-length-init
 unfolding joined
-loop-i-init c = let first = start-zero (sizes c.args.crc c.args.lengths.now) in
-    (search rules, search rules, rw first (omega (arith, c.plus-at.ensures)), none (search rules) (search rules))
+loop-length-init c = record {
+  room = search rules;
+  next = rw (start-zero (sizes c.args.crc c.args.lengths.now)) (omega (arith, c.saturating_add-at.ensures));
+  entries = none (search rules) (search rules);
+}
 
-pub loop-i-preserved : goal.loop-i-preserved
-loop-i-preserved c = let next = start-next c.args.crc c.args.lengths.now c.loop-i.i c.loop-i-test.true in (
-  search rules,
-  search rules,
-  rw add-one (omega (arith, next, c.plus-at-in-loop-i.ensures, c.unit_size.ensures, c.loop-i.invariant.2)),
-  rw (add-one, joined-more (entry_of c.args.crc c.plus-at.result c.args.lengths.now) c.loop-i.i, ← c.loop-i.invariant.2) (c.loop-i.invariant.3 then c.entry-p.ensures),
-)
+pub loop-length-preserved : goal.loop-length-preserved
+loop-length-preserved c =
+    let i = c.loop-length.length-index in
+    let now = c.loop-length.invariant in
+    let next = start-next c.args.crc c.args.lengths.now i c.loop-length-test.true in
+    record {
+      room = search rules;
+      next = rw add-one (omega (arith, next, c.saturating_add-at-in-loop-length.ensures, c.unit_size.ensures, now.next));
+      entries = rw (add-one, joined-more (entry_of c.args.crc c.saturating_add-at.result c.args.lengths.now) i, ← now.next) (now.entries then c.entry-c.ensures);
+    }
 
 pub returns : goal.returns
 unfolding index
-returns c = let all : c.loop-i.i ≡ length c.args.lengths.now = le_antisymm (search rules) (search rules) in
-    rw (all, c.plus-at.ensures, c.shift.ensures) at c.loop-i.invariant.3
+returns c =
+    let all : c.loop-length.length-index ≡ length c.args.lengths.now = le_antisymm (search rules) (search rules) in
+    rw (all, c.saturating_add-at.ensures, c.shift.ensures) at c.loop-length.invariant.entries

@@ -6,4 +6,4 @@ use Rattle.dst_reads.proofs.dst_data.dstc_bytes.Goals as goal
 
 pub returns : goal.returns
 returns c = rw (← c.crc.ensures)
-    (number-whole (ascii "DSTC") _ c.new-c.ensures refl refl c.chunk_head-c1.ensures c.be32.ensures)
+    (number-whole (ascii "DSTC") _ c.new.ensures refl refl c.chunk_head-c.ensures c.be32.ensures)

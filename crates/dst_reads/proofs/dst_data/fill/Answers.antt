@@ -34,44 +34,44 @@ tested : (ls lent frames contents : List ℕ) (bytes n : ℕ) (p q : Positions) 
     → given ≡ is_lent bytes (between q ls) lent frames contents
 tested ls lent frames contents bytes n p q given e b t = rw (← e, ← b, ← mid_slice p.first p.end ls) t
 
-pub touched-p-requires : goal.touched-p-requires
-touched-p-requires c = rw c.locate-place.ensures (inside (sizes c.args.crc c.args.lengths.now) c.args.w.skip)
+pub touched-first-requires : goal.touched-first-requires
+touched-first-requires c = rw c.locate-place.ensures (inside (sizes c.args.crc c.args.lengths.now) c.args.w.skip)
 
 pub offset_bounds-lengths-first : goal.offset_bounds-lengths-first
 offset_bounds-lengths-first c =
-    let k = known _ _ _ _ _ (wanted _ _ _ _ _ _ c.locate-place.ensures c.room-free.ensures c.touched-p.ensures) in
-    let h : c.touched-p.result.first ≤ length c.args.lengths.now = omega (arith, k.0, k.1) in
+    let k = known _ _ _ _ _ (wanted _ _ _ _ _ _ c.locate-place.ensures c.saturating_sub-free.ensures c.touched-first.ensures) in
+    let h : c.touched-first.result.first ≤ length c.args.lengths.now = omega (arith, k.0, k.1) in
     search rules
 
 pub slice_bounds-is_lent-count : goal.slice_bounds-is_lent-count
 slice_bounds-is_lent-count c =
-    let k = known _ _ _ _ _ (wanted _ _ _ _ _ _ c.locate-place.ensures c.room-free.ensures c.touched-p.ensures) in
+    let k = known _ _ _ _ _ (wanted _ _ _ _ _ _ c.locate-place.ensures c.saturating_sub-free.ensures c.touched-first.ensures) in
     omega (arith, k.0)
 
 pub slice_bounds-is_lent-start : goal.slice_bounds-is_lent-start
 slice_bounds-is_lent-start c =
-    let k = known _ _ _ _ _ (wanted _ _ _ _ _ _ c.locate-place.ensures c.room-free.ensures c.touched-p.ensures) in
+    let k = known _ _ _ _ _ (wanted _ _ _ _ _ _ c.locate-place.ensures c.saturating_sub-free.ensures c.touched-first.ensures) in
     omega (arith, k.0)
 
 pub slice_bounds-is_lent-end : goal.slice_bounds-is_lent-end
 slice_bounds-is_lent-end c =
-    let k = known _ _ _ _ _ (wanted _ _ _ _ _ _ c.locate-place.ensures c.room-free.ensures c.touched-p.ensures) in
+    let k = known _ _ _ _ _ (wanted _ _ _ _ _ _ c.locate-place.ensures c.saturating_sub-free.ensures c.touched-first.ensures) in
     omega (arith, k.1)
 
 pub returns-then-not-is_lent : goal.returns-then-not-is_lent
 returns-then-not-is_lent c =
-    let l = tested _ _ _ _ _ _ _ _ _ (wanted _ _ _ _ _ _ c.locate-place.ensures c.room-free.ensures c.touched-p.ensures) c.plain_bytes-n.ensures c.is_lent.ensures in
+    let l = tested _ _ _ _ _ _ _ _ _ (wanted _ _ _ _ _ _ c.locate-place.ensures c.saturating_sub-free.ensures c.touched-first.ensures) c.plain_bytes-n.ensures c.is_lent.ensures in
     rw (sym l ∙ c.if-not-is_lent.true) (record { answer = refl; buffer = refl })
 
 pub units-v-requires : goal.units-v-requires
 units-v-requires c =
-    let l = tested _ _ _ _ _ _ _ _ _ (wanted _ _ _ _ _ _ c.locate-place.ensures c.room-free.ensures c.touched-p.ensures) c.plain_bytes-n.ensures c.is_lent.ensures in
+    let l = tested _ _ _ _ _ _ _ _ _ (wanted _ _ _ _ _ _ c.locate-place.ensures c.saturating_sub-free.ensures c.touched-first.ensures) c.plain_bytes-n.ensures c.is_lent.ensures in
     let q = lent-lengths _ _ _ _ _ (sym l ∙ c.if-not-is_lent.false) in
     record { lengths_value = rw q.0 q.1.0; lengths_value_2 = rw (q.0, c.plain_bytes-n.ensures) q.1.1 }
 
 pub returns : goal.returns
 returns c =
-    let l = tested _ _ _ _ _ _ _ _ _ (wanted _ _ _ _ _ _ c.locate-place.ensures c.room-free.ensures c.touched-p.ensures) c.plain_bytes-n.ensures c.is_lent.ensures in
+    let l = tested _ _ _ _ _ _ _ _ _ (wanted _ _ _ _ _ _ c.locate-place.ensures c.saturating_sub-free.ensures c.touched-first.ensures) c.plain_bytes-n.ensures c.is_lent.ensures in
     let given = sym l ∙ c.if-not-is_lent.false in
     rw (given, c.filled.ensures, c.locate-place.ensures)
     (filled-lent c.args.crc c.args.lengths.now (plain_bytes c.args.crc c.args.channels) c.args.lent.now c.args.frames.now c.args.contents.now c.args.w c.args.out.now given {v = c.units-v.result}

@@ -4,7 +4,7 @@ use Rattle.window.proofs.WindowLaws.{◌then◌}
 use Rattle.dst_reads.proofs.dst_data.unit.Goals as goal
 
 pub returns-then-crc : goal.returns-then-crc
-returns-then-crc c = rw (c.if-crc.true, unit-crc _) (c.dstf-w1.ensures then c.dstc.ensures)
+returns-then-crc c = rw (c.if-crc.true, unit-crc _) (c.dstf-w.ensures then c.dstc.ensures)
 
-pub returns : goal.returns
-returns c = rw (c.if-crc.false, unit-plain _) c.dstf-w1.ensures
+pub returns-else-crc : goal.returns-else-crc
+returns-else-crc c = rw (c.if-crc.false, unit-plain _) c.dstf-w.ensures

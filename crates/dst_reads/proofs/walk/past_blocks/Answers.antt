@@ -1,23 +1,19 @@
 -- The goals that a check leaves.
+use mathlib.Core.Path.{refl}
+use Prim.Native.Nat.{◌/◌, ◌<◌}
 use native.Mathlib.Omega.{arith}
+use lib.ListN.{length}
 use Rattle.dst.specs.Unit.{unit_size}
-use Rattle.dst_reads.proofs.WalkLaws.{walk_starts}
+use Rattle.dst_reads.proofs.WalkLaws.{block_at, block_on, walk_starts}
 use Rattle.dst_reads.proofs.walk.past_blocks.Goals as goal
 
-pub loop-k-init : goal.loop-k-init
-loop-k-init c = (omega arith, walk_starts (unit_size c.args.crc) c.args.lengths.now c.args.place)
+pub loop-block-init : goal.loop-block-init
+loop-block-init c = record { passed = refl; place = walk_starts (unit_size c.args.crc) c.args.lengths.now c.args.place }
 
-pub returns-then-bound-ge-SMALL : goal.returns-then-bound-ge-SMALL
-returns-then-bound-ge-SMALL c = c.loop-k.invariant
-
-pub block_size-bytes-requires : goal.block_size-bytes-requires
-block_size-bytes-requires c = record { k_in_bounds = omega arith; by_index = λ i h. omega (arith, c.bound.ensures i h) }
-
-pub returns-then-within-bytes : goal.returns-then-within-bytes
-returns-then-within-bytes c = c.loop-k.invariant
-
-pub loop-k-preserved : goal.loop-k-preserved
-loop-k-preserved c = (omega arith, omega (arith, c.block_size-bytes.ensures))
-
-pub returns : goal.returns
-returns c = c.loop-k.invariant
+pub loop-block-preserved : goal.loop-block-preserved
+loop-block-preserved c =
+    let here = c.loop-block.invariant in
+    let known : c.loop-block.block-index < length c.args.lengths.now / 64 = omega arith in
+    let size = rw (c.as_chunks.ensures.front, block_at, ← here.passed) at c.block_size-bytes.ensures in
+    let next = block_on c.args.crc c.args.lengths.now c.loop-block.position 64 in
+    record { passed = omega arith; place = omega arith }

@@ -5,4 +5,4 @@ use Rattle.frame_time.proofs.time.time_bytes.Goals as goal
 
 pub returns : goal.returns
 unfolding time_bytes
-returns c = c.be16-c.ensures then c.byte-c.ensures then c.byte-c-2.ensures then c.be32.ensures
+returns c = c.be16.ensures then c.byte.ensures then c.byte-2.ensures then c.be32.ensures

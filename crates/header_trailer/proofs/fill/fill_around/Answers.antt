@@ -14,4 +14,4 @@ pub returns : goal.returns
 returns c =  -- DSD sound fits a u64
     let low : area_positions c.args.area * frame_bytes c.args.area.channels < 2 ^ 64 =
     rw mul_comm (omega (arith, sound-short c.args.area.channels (area_positions c.args.area) (search rules) (search rules))) in
-    filled _ _ _ low c.sound_size-sound.ensures c.plus-size.ensures c.new-start.ensures (c.chunk_head-c.ensures then c.front_sized.ensures) c.back.ensures
+    filled _ _ _ low c.sound_size-sound.ensures c.saturating_add-size.ensures c.new-start.ensures (c.chunk_head-c.ensures then c.front_sized.ensures) c.back.ensures

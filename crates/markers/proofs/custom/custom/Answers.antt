@@ -1,35 +1,34 @@
 -- The goals that a check leaves.
-use Prim.Native.Nat.{◌*◌}
+use mathlib.Core.Path.{◌≡◌}
+use mathlib.Core.List.{append_assoc, append-nil, ◌++◌, []}
 use borrow.Author.Rules.{rules}
-use lib.ListN.{take, drop}
+use lib.ListN.{length}
+use Rattle.std.proofs.lemmas.List.{map-append}
+use Rattle.std.specs.Slice.Iter.{chunks_exact_rest}
 use Rattle.tree.specs.Tree.{bytes, each}
 use Rattle.chunk.proofs.AppendLaws.{◌then◌, none}
-use Rattle.chunk.proofs.RowsLaws.{row_words, mapped_next, mapped_all}
 use Rattle.tree.proofs.TreeLaws.{bytes-each-append, bytes-each-one}
-use Rattle.markers.specs.Marker.{mark}
-use Rattle.markers.specs.Custom.{custom_of, customs}
-use Rattle.tracks.proofs.RowLaws.{row-whole}
+use Rattle.markers.specs.Custom.{customs}
+use Rattle.markers.proofs.CustomLaws.{customs_next, customs_none}
 use Rattle.markers.proofs.custom.custom.Goals as goal
 
-pub loop-i-init : goal.loop-i-init
+pub loop-row-init : goal.loop-row-init
 unfolding bytes each
-loop-i-init c = (search rules, search rules, none (search rules) (search rules))
+loop-row-init c = record { size = search rules; rest = search rules; written = none (search rules) (search rules) }
 
-pub custom_of-m-requires : goal.custom_of-m-requires
-custom_of-m-requires c = row-whole c.args.rows.now c.loop-i.i (search rules)
-
-pub mark-c-requires : goal.mark-c-requires
-mark-c-requires c = tt
-
-pub loop-i-preserved : goal.loop-i-preserved
-unfolding customs
-loop-i-preserved c = let f = mark c.args.pool.now c.args.raw.now c.args.how in
-    let one = rw (c.custom_of-m.ensures, row_words 4 c.loop-i.i c.args.rows.now, ← bytes-each-one f (custom_of (take 4 (drop (c.loop-i.i * 4) c.args.rows.now)))) at c.mark-c.ensures in (
-      search rules,
-      search rules,
-      rw (mapped_next custom_of 4 c.args.rows.now c.loop-i.i (search rules), bytes-each-append) (c.loop-i.invariant.2 then one),
-    )
+pub loop-row-preserved : goal.loop-row-preserved
+loop-row-preserved c =
+    let rest = chunks_exact_rest c.next.new.self in
+    let row = c.in-Some.row.now in
+    let four : length row ≡ 4 = search rules in
+    let joined : chunks_exact_rest c.loop-row.row-iterator ≡ row ++ rest = search rules in
+    let next = rw (← joined) at (customs_next row rest four) in
+    record {
+      size = search rules;
+      rest = rw (map-append, append_assoc, ← next) c.loop-row.invariant.rest;
+      written = rw (map-append, bytes-each-append, bytes-each-one) (c.loop-row.invariant.written then rw c.custom_of.ensures at c.mark-c.ensures);
+    }
 
 pub returns : goal.returns
-unfolding customs
-returns c = rw (mapped_all custom_of 4 c.args.rows.now c.loop-i.i (search rules)) at c.loop-i.invariant.2
+returns c = let end : customs (chunks_exact_rest c.loop-row.row-iterator) ≡ [] = customs_none _ (search rules) in
+    rw (c.loop-row.invariant.rest, end, append-nil) c.loop-row.invariant.written

@@ -1,17 +1,7 @@
--- `marker::marker_text` meets its contract, for each origin of a text. Assumes nothing.
-use Rattle.markers.specs.Marker.{marker_text}
+-- `marker::marker_text` meets its contract: nothing of a text that is missing. Assumes nothing.
 use Rattle.chunk.proofs.AppendLaws.{none}
 use borrow.Author.Rules.{rules}
 use Rattle.markers.proofs.marker.marker_text.Goals as goal
 
 pub returns-in-Empty : goal.returns-in-Empty
-unfolding marker_text
 returns-in-Empty c = rw c.in-Empty.is (none (search rules) (search rules))
-
-pub returns-in-Bytes : goal.returns-in-Bytes
-unfolding marker_text
-returns-in-Bytes c = rw c.in-Bytes.is c.pool_bytes.ensures
-
-pub returns-in-Title : goal.returns-in-Title
-unfolding marker_text
-returns-in-Title c = rw c.in-Title.is c.text_bytes.ensures

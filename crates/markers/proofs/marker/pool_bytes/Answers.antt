@@ -3,4 +3,4 @@ use Rattle.texts.proofs.ExtentLaws.{part_places}
 use Rattle.markers.proofs.marker.pool_bytes.Goals as goal
 
 pub returns : goal.returns
-returns c = rw (c.first-first.ensures, c.end-end.ensures, part_places c.args.raw.now c.args.e) at c.bytes.ensures
+returns c = rw (c.first.ensures, c.end.ensures, part_places c.args.raw.now c.args.e) at c.bytes.ensures

@@ -1,9 +1,0 @@
--- `property::start` meets its contract. Assumes nothing.
-
-use Rattle.meanings.proofs.property.start.Goals as goal
-
-pub returns-then-given : goal.returns-then-given
-returns-then-given c = rw c.if-given.true
-
-pub returns : goal.returns
-returns c = rw c.if-given.false
