@@ -3,14 +3,14 @@ use mathlib.Core.Path.{◌≡◌, refl}
 use mathlib.Core.Bool.{true, false}
 use mathlib.Core.List.{List, [], ◌∷◌, map}
 use Prim.Native.Nat.{ℕ, ◌+◌}
+use Rattle.std.specs.Prelude.{Ok, Err}
 use Rattle.refusal.specs.Below.{below, how_many}
 use Rattle.refusal.specs.Verdict.{number_of}
 use Rattle.calendar.specs.declared.date.Stamp.{Stamp}
-use Rattle.calendar.specs.declared.window.Falls.{Falls}
-use Rattle.calendar.specs.declared.window.Falls.TheVariants.{Told, Refused}
+use Rattle.refusal.specs.declared.verdict.Refusal.TheVariants.{CommentDate, NoDate}
 use Rattle.calendar.specs.Date.{is_leap, days_in, note_fault}
 use Rattle.calendar.specs.Order.{lower}
-use Rattle.calendar.specs.Window.{falls_in}
+use Rattle.calendar.specs.Window.{Falls, falls_in}
 
 -- the days of a year, month by month
 abbrev days_of : ℕ → ℕ
@@ -57,28 +57,28 @@ zeros = refl
 abbrev leap_day : Stamp → Falls
 leap_day note = falls_in (on 2_024 2 29) (on 2_024 3 1) note
 
-borders : map leap_day (on 2_024 2 29 ∷ on 2_024 3 1 ∷ at 2_024 2 28 23 59 ∷ at 2_024 2 29 23 59 ∷ []) ≡ Told true ∷ Told false ∷ Told false ∷ Told true ∷ []
+borders : map leap_day (on 2_024 2 29 ∷ on 2_024 3 1 ∷ at 2_024 2 28 23 59 ∷ at 2_024 2 29 23 59 ∷ []) ≡ Ok true ∷ Ok false ∷ Ok false ∷ Ok true ∷ []
 unfolding falls_in lower
 borders = refl
 
 -- an undated note falls in no window; an undated start or end is refused, and so is a note that is no date
-undated : leap_day (on 2_024 0 0) ≡ Told false
+undated : leap_day (on 2_024 0 0) ≡ Ok false
 unfolding falls_in lower
 undated = refl
 
-undated-start : falls_in (on 2_024 0 0) (on 2_024 3 1) (on 2_024 2 29) ≡ Refused 46 0
+undated-start : falls_in (on 2_024 0 0) (on 2_024 3 1) (on 2_024 2 29) ≡ Err NoDate
 unfolding falls_in
 undated-start = refl
 
-undated-end : falls_in (on 2_024 2 29) (on 0 0 0) (on 2_024 2 29) ≡ Refused 46 0
+undated-end : falls_in (on 2_024 2 29) (on 0 0 0) (on 2_024 2 29) ≡ Err NoDate
 unfolding falls_in
 undated-end = refl
 
-no_date : leap_day (on 2_024 2 30) ≡ Refused 46 0
+no_date : leap_day (on 2_024 2 30) ≡ Err NoDate
 unfolding falls_in
 no_date = refl
 
 -- start, end and note in this order: the end's 34 stands behind the start's 46 and before the note's
-first-at_fault : map (λ (start : Stamp). falls_in start (on 2_024 13 1) (on 2_024 2 30)) (on 2_023 2 29 ∷ on 2_024 2 29 ∷ []) ≡ Refused 46 0 ∷ Refused 34 0 ∷ []
+first-at_fault : map (λ (start : Stamp). falls_in start (on 2_024 13 1) (on 2_024 2 30)) (on 2_023 2 29 ∷ on 2_024 2 29 ∷ []) ≡ Err NoDate ∷ Err CommentDate ∷ []
 unfolding falls_in
 first-at_fault = refl

@@ -4,12 +4,11 @@ use mathlib.Core.Bool.{Bool, true, false, cond, not, ◌&&◌, ◌||◌, true≢
 use Prim.Native.Nat.{ℕ, zero, suc, ◌+◌, ◌<◌}
 use native.Mathlib.Numerals.{add-one}
 use native.Mathlib.Omega.{arith}
-use Rattle.refusal.specs.declared.verdict.Verdict.{Verdict}
-use Rattle.refusal.specs.declared.verdict.Verdict.TheVariants.{Accepted, Refused}
+use Rattle.std.specs.Prelude.{Ok, Err}
+use Rattle.refusal.specs.Verdict.{Verdict}
 use Rattle.refusal.specs.Below.{below, how_many}
 use Rattle.refusal.proofs.VerdictLaws.{or-accepted}
 use Rattle.calendar.specs.declared.date.Stamp.{Stamp}
-use Rattle.calendar.specs.declared.window.Falls.TheVariants as falls
 use Rattle.calendar.specs.Date.{is_undated, date_fault}
 use Rattle.calendar.specs.Order.{earlier}
 use Rattle.calendar.specs.Window.{is_inside, window_fault, told_unless, falls_in}
@@ -59,9 +58,9 @@ module _ (start middle end note : Stamp) where
       one_of_both (is_undated note) (earlier note start) (earlier note middle) (earlier note end) (still_earlier note start middle h) (still_earlier note middle end k)
 
 -- an answer that is told
-told : (v : Verdict) (inside : Bool) {a : Bool} → told_unless v inside ≡ falls.Told a → (v ≡ Accepted) × (inside ≡ a)
-told Accepted inside e = (refl, cc)
-told (Refused n d) inside e = let z : ◌≡◌ {A = ℕ} 0 1 = cc in absurd (omega arith)
+told : (v : Verdict) (inside : Bool) {a : Bool} → told_unless v inside ≡ Ok a → (v ≡ Ok tt) × (inside ≡ a)
+told (Ok done) inside e = (refl, cc)
+told (Err r) inside e = let z : ◌≡◌ {A = ℕ} 0 1 = cc in absurd (omega arith)
 
 -- a count goes on by one window
 one_more : (a b : Bool) → (a && b) ≡ false → cond a 1 0 + cond b 1 0 ≡ cond (a || b) 1 0
@@ -96,7 +95,7 @@ module _ (cut : ℕ → Stamp) where
       let more = one_more (is_inside (cut 0) (cut n) note) (is_inside (cut n) (cut (suc n)) note) (inside_one (cut 0) (cut n) (cut (suc n)) note) in
       rw (in_one n before note, add-one, more, both)
 
-not-both : (start middle end note : Stamp) (a b : Bool) → falls_in start middle note ≡ falls.Told a → falls_in middle end note ≡ falls.Told b → (a && b) ≡ false
+not-both : (start middle end note : Stamp) (a b : Bool) → falls_in start middle note ≡ Ok a → falls_in middle end note ≡ Ok b → (a && b) ≡ false
 unfolding falls_in
 not-both start middle end note a b p q =
     let first = (told (window_fault start middle note) (is_inside start middle note) p).1 in
@@ -104,7 +103,7 @@ not-both start middle end note a b p q =
     rw (first, second) at (inside_one start middle end note)
 
 none_lost : (start middle end note : Stamp) (a b : Bool) → earlier middle start ≡ false → earlier end middle ≡ false
-    → falls_in start middle note ≡ falls.Told a → falls_in middle end note ≡ falls.Told b → falls_in start end note ≡ falls.Told (a || b)
+    → falls_in start middle note ≡ Ok a → falls_in middle end note ≡ Ok b → falls_in start end note ≡ Ok (a || b)
 unfolding falls_in
 none_lost start middle end note a b h k p q =
     let first = told (window_fault start middle note) (is_inside start middle note) p in

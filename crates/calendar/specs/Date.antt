@@ -1,8 +1,8 @@
 -- Dates. 34: "Comment month over 12, day 31, hour 23 or minutes 59 (34 to 36: the first at fault)"; a year that passes its field is one too. 46: "A comment's date must be a Gregorian date with year 1 or
 -- later, or have month and day both zero, the sign for an undated note" (02: "Leap years follow the 4, 100 and 400 rule"; "It refuses with 46 any other date"). Assumes nothing.
 use Rattle.std.specs.Prelude.{ℕ, ◌%◌, Bool, cond, not, ◌&&◌, ◌||◌, [], ◌∷◌, eqb, leb, ltb}
-use Rattle.refusal.specs.declared.verdict.Verdict.{Verdict}
-use Rattle.refusal.specs.Verdict.{refuse_if, first_of}
+use Rattle.refusal.specs.declared.verdict.Refusal.TheVariants.{CommentDate, NoDate}
+use Rattle.refusal.specs.Verdict.{Verdict, refuse_if, first_of}
 use Rattle.calendar.specs.declared.date.Stamp.{Stamp}
 
 -- a year that 4 divides; of those that 100 divides, only the ones that 400 divides
@@ -33,7 +33,7 @@ out_of_range s = ltb 65_535 s.year || (ltb 12 s.month || (ltb 31 s.day || (ltb 2
 
 -- 34, then 46 where it is not allowed
 abbrev pub stamp_fault : Stamp → Bool → Verdict
-stamp_fault s allowed = first_of (refuse_if (out_of_range s) 34 0 ∷ refuse_if (not allowed) 46 0 ∷ [])
+stamp_fault s allowed = first_of (refuse_if (out_of_range s) CommentDate ∷ refuse_if (not allowed) NoDate ∷ [])
 
 -- of what must be a date
 abbrev pub date_fault : Stamp → Verdict

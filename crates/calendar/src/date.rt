@@ -2,10 +2,10 @@
 ghost use Rattle.std.specs.Prelude.{◌≡◌};
 ghost use Rattle.calendar.specs.Date.{is_leap, is_short, days_in, is_date, is_undated, out_of_range, stamp_fault, date_fault, note_fault};
 
-use refusal::verdict::{Verdict, refuse_if};
+use refusal::verdict::{Refusal, Verdict, refuse_if};
 
-// A date and a time of day, to the minute.
-#[derive(Clone, Copy)]
+// A date and a time of day, to the minute: the largest unit first, as stamps are compared.
+#[derive(Clone, Copy, PartialEq, Eq, PartialOrd, Ord)]
 pub struct Stamp {
     pub year: u32,
     pub month: u32,
@@ -24,30 +24,27 @@ fn is_leap(year: u32) -> bool
 fn is_short(month: u32) -> bool
     ensures { result ≡ is_short month }
 {
-    (month == 4) | ((month == 6) | ((month == 9) | (month == 11)))
+    matches!(month, 4 | 6 | 9 | 11)
 }
 
 fn days_in(year: u32, month: u32) -> u32
     ensures { result ≡ days_in year month }
 {
-    if month == 2 {
-        if is_leap(year) {
-            return 29;
-        }
-        return 28;
+    match month {
+        2 if is_leap(year) => 29,
+        2 => 28,
+        _ if is_short(month) => 30,
+        _ => 31,
     }
-    if is_short(month) {
-        return 30;
-    }
-    31
 }
 
 // Whether it is a date of the calendar, from year 1 on.
 pub fn is_date(s: Stamp) -> bool
     ensures { result ≡ is_date s }
 {
-    let days = days_in(s.year, s.month);
-    (1 <= s.year) & ((1 <= s.month) & ((s.month <= 12) & ((1 <= s.day) & (s.day <= days))))
+    (1 <= s.year)
+        & ((1 <= s.month)
+            & ((s.month <= 12) & ((1 <= s.day) & (s.day <= days_in(s.year, s.month)))))
 }
 
 // Whether it is the sign for an undated note.
@@ -68,24 +65,20 @@ fn out_of_range(s: Stamp) -> bool
 fn stamp_fault(s: Stamp, allowed: bool) -> Verdict
     ensures { result ≡ stamp_fault s allowed }
 {
-    let v34 = refuse_if(out_of_range(s), 34, 0);
-    let v46 = refuse_if(!allowed, 46, 0);
-    v34.or_else(v46)
+    refuse_if(out_of_range(s), Refusal::CommentDate)?;
+    refuse_if(!allowed, Refusal::NoDate)
 }
 
 // 34 and 46 of what must be a date.
 pub fn date_fault(s: Stamp) -> Verdict
     ensures { result ≡ date_fault s }
 {
-    let date = is_date(s);
-    stamp_fault(s, date)
+    stamp_fault(s, is_date(s))
 }
 
 // 34 and 46 of a note, which may be undated.
 pub fn note_fault(s: Stamp) -> Verdict
     ensures { result ≡ note_fault s }
 {
-    let date = is_date(s);
-    let undated = is_undated(s);
-    stamp_fault(s, date | undated)
+    stamp_fault(s, is_date(s) | is_undated(s))
 }

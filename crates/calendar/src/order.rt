@@ -8,12 +8,5 @@ use crate::date::Stamp;
 pub fn earlier(a: Stamp, b: Stamp) -> bool
     ensures { result ≡ earlier a b }
 {
-    (a.year < b.year)
-        | ((a.year == b.year)
-            & ((a.month < b.month)
-                | ((a.month == b.month)
-                    & ((a.day < b.day)
-                        | ((a.day == b.day)
-                            & ((a.hour < b.hour)
-                                | ((a.hour == b.hour) & (a.minutes < b.minutes))))))))
+    a < b
 }

@@ -1,11 +1,12 @@
 -- `window::falls_in` meets its contract. Assumes nothing.
+use Rattle.refusal.proofs.VerdictLaws.{handed-back}
 use Rattle.calendar.specs.Window.{falls_in}
 use Rattle.calendar.proofs.window.falls_in.Goals as goal
 
-pub returns-in-Accepted : goal.returns-in-Accepted
+pub returns-in_err-window_fault : goal.returns-in_err-window_fault
 unfolding falls_in
-returns-in-Accepted c = rw (← c.window_fault-fault.ensures, c.in-Accepted.is, c.is_inside-inside.ensures)
+returns-in_err-window_fault c = rw (← c.in_err-window_fault.ensures) (handed-back c.from_residual.ensures.1)
 
-pub returns-in-Refused : goal.returns-in-Refused
+pub returns : goal.returns
 unfolding falls_in
-returns-in-Refused c = rw (← c.window_fault-fault.ensures, c.in-Refused.is)
+returns c = rw (← c.in_ok-window_fault.ensures, c.is_inside.ensures)
