@@ -46,7 +46,6 @@ module _ (n : ℕ) where
   ShortTitles ss = All (λ s. s.title.length ≤ n) ss
 
   pub text-room : (pool raw : List ℕ) (how : Marking) (t : MarkerText) → ShortText t → length (marker_text pool raw how.text.rule t) ≤ n
-  unfolding marker_text
   text-room pool raw how Empty h = omega arith
   text-room pool raw how (Bytes e) h = le_trans (length_part raw e) h
   text-room pool raw how (Title e) h = le_trans (extent_short how.text.rule pool e) h

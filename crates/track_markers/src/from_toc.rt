@@ -6,53 +6,59 @@ ghost use Rattle.markers.specs.Marker.{mark};
 ghost use Rattle.tracks.specs.Track.{spans};
 ghost use Rattle.track_markers.specs.Program.{source_markers, from_toc};
 
+use crate::program::program;
 use chunk::Cursor;
 use markers::marker::Marking;
+use texts::pools::Pools;
 use tracks::order::{ProgramOptions, clipped_order, has_program};
+use tracks::track::WORDS;
 
 // The markers of a source track.
 fn from_source(
     c: Cursor,
     out: &mut [u8],
-    pool: &[u32],
-    raw: &[u8],
+    pools: &Pools<'_>,
     tracks: &[u32],
     how: Marking,
     p: ProgramOptions,
 ) -> Cursor
     requires { 1 ≤ p.source_track }
-    ensures { Appended out.old c.at (bytes (each (mark pool.now raw.now how) (source_markers p (spans tracks.now)))) out.new result.at }
+    ensures { Appended out.old c.at
+        (bytes (each (mark pools.now.text.now pools.now.bytes.now how) (source_markers p (spans tracks.now))))
+        out.new result.at }
 {
     let number = p.source_track as usize;
-    if tracks.len() / tracks::track::WORDS < number {
+    if tracks.len() / WORDS < number {
         return c;
     }
-    let at = (number - 1) * tracks::track::WORDS;
-    let to = at + tracks::track::WORDS;
-    let left = clipped_order(&tracks[at..to], p.first, p.end);
-    if !(p.source_track_markers & left.left) {
-        return c;
+    let at = (number - 1) * WORDS;
+    let track = &tracks[at..at + WORDS];
+    let left = clipped_order(track, p.first, p.end).left;
+    if p.source_track_markers && left {
+        program(c, out, pools, track, how, p)
+    } else {
+        c
     }
-    crate::program::program(c, out, pool, raw, &tracks[at..to], how, p)
 }
 
 // The markers that are made from tracks.
 pub fn from_toc(
     c: Cursor,
     out: &mut [u8],
-    pool: &[u32],
-    raw: &[u8],
+    pools: &Pools<'_>,
     tracks: &[u32],
     how: Marking,
     p: ProgramOptions,
 ) -> Cursor
-    ensures { Appended out.old c.at (bytes (each (mark pool.now raw.now how) (from_toc p (spans tracks.now)))) out.new result.at }
+    ensures { Appended out.old c.at
+        (bytes (each (mark pools.now.text.now pools.now.bytes.now how) (from_toc p (spans tracks.now))))
+        out.new result.at }
 {
     if p.source_track != 0 {
-        return from_source(c, out, pool, raw, tracks, how, p);
+        from_source(c, out, pools, tracks, how, p)
+    } else if has_program(tracks, p) {
+        program(c, out, pools, tracks, how, p)
+    } else {
+        c
     }
-    if !has_program(tracks, p) {
-        return c;
-    }
-    crate::program::program(c, out, pool, raw, tracks, how, p)
 }

@@ -1,4 +1,5 @@
 -- `from_toc::from_toc` meets its contract. Assumes nothing.
+use mathlib.Core.Path.{sym, ◌∙◌}
 use borrow.Author.Rules.{rules}
 use borrow.Author.Tests.{eq-eqb, ne_eqb}
 use Rattle.tree.specs.Tree.{bytes, each}
@@ -10,12 +11,11 @@ pub returns-then-p-ne0 : goal.returns-then-p-ne0
 unfolding from_toc
 returns-then-p-ne0 c = rw (ne_eqb _ _ c.if-p-ne0.true) c.from_source.ensures
 
-pub returns-then-not-has_program : goal.returns-then-not-has_program
-unfolding from_toc bytes each
-returns-then-not-has_program c = let off = rw c.has_program.ensures at c.if-not-has_program.true in
-    rw (eq-eqb _ _ c.if-p-ne0.false, off) (none (search rules) (search rules))
-
-pub returns : goal.returns
+pub returns-then-has_program : goal.returns-then-has_program
 unfolding from_toc
-returns c = let on = rw c.has_program.ensures at c.if-not-has_program.false in
-    rw (eq-eqb _ _ c.if-p-ne0.false, on) c.program.ensures
+returns-then-has_program c = rw (eq-eqb _ _ c.if-p-ne0.false, sym c.has_program.ensures ∙ c.if-has_program.true) c.program.ensures
+
+pub returns-else-has_program : goal.returns-else-has_program
+unfolding from_toc bytes each
+returns-else-has_program c =
+    rw (eq-eqb _ _ c.if-p-ne0.false, sym c.has_program.ensures ∙ c.if-has_program.false) (none (search rules) (search rules))
