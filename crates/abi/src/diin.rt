@@ -7,7 +7,7 @@ ghost use Rattle.meanings.specs.Property.{start_of};
 ghost use Rattle.meanings.specs.Diin.{given_text, source_of, info_order_of};
 
 use chunk::Cursor;
-use master_info::diin::{Info, diin};
+use master_info::diin::{Given, Info, diin};
 use master_info::pick::ArtistTitle;
 use meanings::diin::{artist_title_source, given_text, info_order};
 use meanings::property::start;
@@ -99,6 +99,13 @@ pub extern "C" fn jangqeruz_diin(
             title: given_text(*track_title),
         },
     };
-    let lent = TODO_GIVEN;
-    diin(Cursor::new(), out, &lent, info_order(*order), info).at
+    let given = Given {
+        pools: Pools {
+            text: pool,
+            bytes: raw,
+        },
+        tracks,
+        markers: custom,
+    };
+    diin(Cursor::new(), out, &given, info_order(*order), info).at
 }

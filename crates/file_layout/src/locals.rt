@@ -19,7 +19,7 @@ use chunk::Cursor;
 use chunk_names::LocalChunk;
 use comt::comt::comt;
 use dst_index::index::dsti;
-use master_info::diin::diin;
+use master_info::diin::{Given, diin};
 use prop::property::{Properties, property};
 use prop_fields::compression::Sound;
 
@@ -79,7 +79,13 @@ fn info_chunk(c: Cursor, out: &mut [u8], inputs: &Inputs<'_>) -> Cursor
         out.new result.at }
 {
     let info = info_of(inputs.area, inputs.options, effective(inputs.options));
-    diin(c, out, inputs, inputs.info_order, info)
+    let lent = inputs.lent;
+    let given = Given {
+        pools: lent.pools,
+        tracks: lent.tracks,
+        markers: lent.markers,
+    };
+    diin(c, out, &given, inputs.info_order, info)
 }
 
 // A local chunk other than the sound.

@@ -12,7 +12,7 @@ use build_options::inputs::Inputs;
 use chunk::Cursor;
 use chunk_names::LocalChunk;
 use comt::comt::comt;
-use master_info::diin::{Info, diin};
+use master_info::diin::{Given, Info, diin};
 use refusal::orders::times;
 use refusal::verdict::{Refusal, Verdict, refuse_if};
 use texts::text::TextOptions;
@@ -56,7 +56,13 @@ fn lacks_diin(order: &[LocalChunk], inputs: &Inputs<'_>, info: Info) -> bool
     if !lacks(order, LocalChunk::EditedMasterInfo) {
         return false;
     }
-    let end = diin(Cursor::new(), &mut [], &inputs.lent, inputs.info_order, info);
+    let lent = inputs.lent;
+    let given = Given {
+        pools: lent.pools,
+        tracks: lent.tracks,
+        markers: lent.markers,
+    };
+    let end = diin(Cursor::new(), &mut [], &given, inputs.info_order, info);
     end.at != 0
 }
 
