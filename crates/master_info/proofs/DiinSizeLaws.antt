@@ -15,9 +15,8 @@ use Rattle.chunk_names.specs.declared.InfoChunk.TheVariants.{EditedMasterId, Mar
 use Rattle.tree.proofs.TreeLaws.{bytes-stop, bytes-leaf}
 use Rattle.texts.specs.Extent.{part}
 use Rattle.texts.specs.Text.{text_bytes, is_written}
-use Rattle.diin_texts.specs.DiinText.{diin_text_data, given_text_bytes, diin_text}
-use Rattle.diin_texts.specs.declared.diin_text.Text.{Text}
-use Rattle.diin_texts.specs.declared.diin_text.Text.TheVariants.{Absent, Given}
+use Rattle.diin_texts.specs.DiinText.{Text, diin_text_data, given_text_bytes, diin_text}
+use Rattle.std.specs.Prelude.{None, Some}
 use Rattle.texts.specs.declared.text.TextOptions.{TextOptions}
 use Rattle.texts.proofs.ExtentLaws.{length_part}
 use Rattle.texts.proofs.TextLaws.{extent_short}
@@ -32,18 +31,17 @@ use Rattle.track_markers.proofs.SizeLaws.{chunk-room, ShortTexts, marks-room}
 module _ (n : ℕ) where
   -- a text that is given has at most n values or bytes
   abbrev pub ShortGiven : Text → Type 0
-  ShortGiven Absent = Unit {0}
-  ShortGiven (Given e) = e.length ≤ n
+  ShortGiven None = Unit {0}
+  ShortGiven (Some e) = e.length ≤ n
 
   emid-room : (raw : List ℕ) (t : Text) → ShortGiven t → length (bytes (emid raw t)) ≤ 13 + n
-  unfolding emid
-  emid-room raw Absent h = rw (bytes-stop) (omega arith)
-  emid-room raw (Given e) h = rw (bytes-leaf) (chunk-room (ascii "EMID") (part raw e) n refl (le_trans (length_part raw e) h))
+  emid-room raw None h = rw (bytes-stop) (omega arith)
+  emid-room raw (Some e) h = rw (bytes-leaf) (chunk-room (ascii "EMID") (part raw e) n refl (le_trans (length_part raw e) h))
 
   text-room : (name : Name) → length name ≡ 4 → (pool : List ℕ) (t : Text) (o : TextOptions) → ShortGiven t → length (diin_text name pool t o) ≤ 18 + n
-  unfolding diin_text given_text_bytes
-  text-room name four pool Absent o h = omega arith
-  text-room name four pool (Given e) o h =
+  unfolding given_text_bytes
+  text-room name four pool None o h = omega arith
+  text-room name four pool (Some e) o h =
       let text = text_bytes o.rule (part pool e) in
       let room : length (diin_text_data text o) ≤ 5 + n = omega (arith, length-diin-text text o, extent_short o.rule pool e, h) in
       go (is_written o (length text)) (chunk name (diin_text_data text o)) (chunk-room name (diin_text_data text o) (5 + n) four room)
@@ -53,28 +51,24 @@ module _ (n : ℕ) where
       go false c fits = omega arith
 
   of_track_short : (has : Bool) (t : Text) → ShortGiven t → ShortGiven (of_track has t)
-  unfolding of_track
   of_track_short true t h = h
   of_track_short false t h = tt
 
   first_short : (a b : Text) → ShortGiven a → ShortGiven b → ShortGiven (first_present a b)
-  unfolding first_present
-  first_short Absent b i j = j
-  first_short (Given e) b i j = i
+  first_short None b i j = j
+  first_short (Some e) b i j = i
 
   pick-short : (source : ArtistTitleSource) (has : Bool) (track album : Text) → ShortGiven track → ShortGiven album → ShortGiven (pick source has track album)
-  unfolding pick
   pick-short Album has track album i j = j
   pick-short Track has track album i j = of_track_short has track i
   pick-short TrackThenAlbum has track album i j = first_short (of_track has track) album (of_track_short has track i) j
 
   pub chosen-short : (info : Info) (track album : Text) → ShortGiven track → ShortGiven album → ShortGiven (chosen info track album)
-  unfolding chosen
   chosen-short info track album i j =
       let has = not (eqb info.program.source_track 0) in
       go info.artist_title (pick info.artist_title_source has track album) (pick-short info.artist_title_source has track album i j)
     where
-      go : (b : Bool) (t : Text) → ShortGiven t → ShortGiven (cond b t Absent)
+      go : (b : Bool) (t : Text) → ShortGiven t → ShortGiven (cond b t None)
       go true t h = h
       go false t h = tt
 
@@ -95,7 +89,6 @@ module _ (n : ℕ) where
 
   pub info-room : (k : ℕ) (pool raw tracks custom : List ℕ) (info : Info) → Limited k tracks custom info
       → (c : InfoChunk) → length (bytes (info_chunk pool raw tracks custom info c)) ≤ info_most k c
-  unfolding info_chunk
   info-room k pool raw tracks custom info l EditedMasterId = emid-room raw info.emid l.id
   info-room k pool raw tracks custom info l Markers =
       le_trans (marks-room n pool raw (marking info) (markers_of tracks custom info) l.texts) (mul-le-mul_left (36 + n) l.few)

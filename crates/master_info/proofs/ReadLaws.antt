@@ -13,8 +13,8 @@ use Rattle.chunk_names.specs.declared.InfoChunk.{InfoChunk}
 use Rattle.chunk_names.specs.declared.InfoChunk.TheVariants.{EditedMasterId, Markers, Artist, Title}
 use Rattle.tree.proofs.TreeLaws.{shaped_each, shaped_if}
 use Rattle.tree.proofs.ValueLaws.{counted-text}
-use Rattle.diin_texts.specs.declared.diin_text.Text.{Text}
-use Rattle.diin_texts.specs.declared.diin_text.Text.TheVariants.{Absent, Given}
+use Rattle.diin_texts.specs.DiinText.{Text}
+use Rattle.std.specs.Prelude.{None, Some}
 use Rattle.diin_texts.proofs.DiinTextLaws.{diin-text_shaped}
 use Rattle.markers.specs.Marker.{mark_head, mark_data, mark}
 use Rattle.master_info.specs.Diin.{marking, artist_of, title_of, emid, markers_of, info_chunk, info_chunks, has_diin, diin}
@@ -31,9 +31,9 @@ mark-value how m text small = counted-text 4 (mark_head how m) text _ 18 (length
 
 module _ (known : Name → Name → Bool) where
   emid_shaped : (raw : List ℕ) (id : Text) → Shaped (dsdiff known) (ascii "DIIN") (emid raw id)
-  unfolding emid inner same
-  emid_shaped raw Absent = tt
-  emid_shaped raw (Given e) = (refl, refl, tt)
+  unfolding inner same
+  emid_shaped raw None = tt
+  emid_shaped raw (Some e) = (refl, refl, tt)
 
   mark_shaped : (pool raw : List ℕ) (how : Marking) (m : Marker) → Shaped (dsdiff known) (ascii "DIIN") (mark pool raw how m)
   unfolding mark inner same
@@ -41,7 +41,7 @@ module _ (known : Name → Name → Bool) where
 
   module _ (pool raw tracks custom : List ℕ) (info : Info) where
     info_shaped : (part : InfoChunk) → Shaped (dsdiff known) (ascii "DIIN") (info_chunk pool raw tracks custom info part)
-    unfolding info_chunk inner same
+    unfolding inner same
     info_shaped EditedMasterId = emid_shaped raw info.emid
     info_shaped Markers = shaped_each (dsdiff known) (ascii "DIIN") _ (mark_shaped pool raw (marking info)) (markers_of tracks custom info)
     info_shaped Artist = diin-text_shaped (dsdiff known) (ascii "DIIN") (ascii "DIAR") refl refl pool (artist_of info) info.text

@@ -1,14 +1,12 @@
 -- DIIN (01: "With info on, DIIN holds in info order EMID (its bytes, if on), every MARK, DIAR and DITI; with info off there is no DIIN. Empty DIIN is written only
 -- under its option"). Assumes nothing.
-use Rattle.std.specs.Prelude.{ℕ, ◌-◌, ◌^◌, Bool, cond, not, ◌&&◌, ◌||◌, List, [], length, eqb, ltb}
+use Rattle.std.specs.Prelude.{ℕ, ◌-◌, ◌^◌, Bool, cond, not, ◌&&◌, ◌||◌, List, [], length, eqb, ltb, None, Some}
 use Rattle.chunk_names.specs.Name.{ascii}
 use Rattle.tree.specs.Tree.{Chunks, stop, leaf, node, bytes, each}
 use Rattle.chunk_names.specs.declared.InfoChunk.{InfoChunk}
 use Rattle.chunk_names.specs.declared.InfoChunk.TheVariants.{EditedMasterId, Markers, Artist, Title}
 use Rattle.texts.specs.Extent.{part}
-use Rattle.diin_texts.specs.DiinText.{diin_text_chunk}
-use Rattle.diin_texts.specs.declared.diin_text.Text.{Text}
-use Rattle.diin_texts.specs.declared.diin_text.Text.TheVariants.{Absent, Given}
+use Rattle.diin_texts.specs.DiinText.{Text, diin_text_chunk}
 use Rattle.markers.specs.declared.marker.Marker.{Marker}
 use Rattle.markers.specs.declared.marker.Marking.{Marking}
 use Rattle.master_info.specs.declared.diin.Info.{Info}
@@ -27,9 +25,9 @@ unfoldable pub markers_of : List ℕ → List ℕ → Info → List Marker
 markers_of tracks custom info = cond info.custom_markers (customs custom) (from_toc info.program (spans tracks))
 
 -- one of the texts of track and album, if they are wanted
-unfoldable pub chosen : Info → Text → Text → Text
+abbrev pub chosen : Info → Text → Text → Text
 chosen info track album =
-    cond info.artist_title (pick info.artist_title_source (not (eqb info.program.source_track 0)) track album) Absent
+    cond info.artist_title (pick info.artist_title_source (not (eqb info.program.source_track 0)) track album) None
 
 abbrev pub artist_of : Info → Text
 artist_of info = chosen info info.track.artist info.album.artist
@@ -38,13 +36,13 @@ abbrev pub title_of : Info → Text
 title_of info = chosen info info.track.title info.album.title
 
 -- EMID, if it is on: its bytes as they are
-unfoldable pub emid : List ℕ → Text → Chunks
-emid bytes Absent = stop
-emid bytes (Given e) = leaf (ascii "EMID") (part bytes e) stop
+abbrev pub emid : List ℕ → Text → Chunks
+emid bytes None = stop
+emid bytes (Some e) = leaf (ascii "EMID") (part bytes e) stop
 
 module _ (pool bytePool tracks custom : List ℕ) (info : Info) where
   -- a chunk of DIIN, or the run of MARK chunks
-  unfoldable pub info_chunk : InfoChunk → Chunks
+  abbrev pub info_chunk : InfoChunk → Chunks
   info_chunk EditedMasterId = emid bytePool info.emid
   info_chunk Markers = each (mark pool bytePool (marking info)) (markers_of tracks custom info)
   info_chunk Artist = diin_text_chunk (ascii "DIAR") pool (artist_of info) info.text

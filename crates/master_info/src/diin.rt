@@ -1,17 +1,20 @@
 // The edited master information: the chunk DIIN.
-ghost use Rattle.std.specs.Prelude.{◌≡◌};
+ghost use Rattle.std.specs.Prelude.{◌≡◌, ◌&&◌, ◌||◌, not, eqb};
 ghost use Rattle.chunk.specs.Append.{Appended};
 ghost use Rattle.tree.specs.Tree.{bytes, each};
 ghost use Rattle.markers.specs.Marker.{mark};
 ghost use Rattle.master_info.specs.Diin.{marking, chosen, emid, markers_of, info_chunk, info_chunks, diin};
 
-use crate::pick::{ArtistTitle, ArtistTitleSource};
+use crate::pick::{ArtistTitle, ArtistTitleSource, pick};
 use chunk::Cursor;
 use chunk_names::InfoChunk;
-use diin_texts::diin_text::Text;
+use diin_texts::diin_text::diin_text;
+use markers::custom::custom;
 use markers::marker::Marking;
-use prop_fields::start::Start;
+use texts::extent::Extent;
+use texts::pools::Pools;
 use texts::text::TextOptions;
+use track_markers::from_toc::from_toc;
 use tracks::order::ProgramOptions;
 
 // What DIIN tells.
@@ -19,10 +22,10 @@ use tracks::order::ProgramOptions;
 pub struct Info {
     pub on: bool, // whether there is a DIIN
     pub empty_info: bool, // whether one without chunks is written
-    pub emid: Text, // bytes of the byte pool, written if given
+    pub emid: Option<Extent>, // bytes of the byte pool, written if given
     pub custom_markers: bool, // whether the markers are those given, not made from tracks
     pub program: ProgramOptions,
-    pub start: Start,
+    pub start: Option<u32>, // the file's absolute start, in frames
     pub text: TextOptions,
     pub artist_title: bool, // whether DIAR and DITI are wanted
     pub artist_title_source: ArtistTitleSource,
@@ -30,102 +33,70 @@ pub struct Info {
     pub track: ArtistTitle,
 }
 
+// What a build is lent that DIIN is made of: the pools, and the rows of tracks and of given markers.
+#[derive(Clone, Copy)]
+pub struct Given<'a> {
+    pub pools: Pools<'a>,
+    pub tracks: &'a [u32],
+    pub markers: &'a [u32],
+}
+
 // EMID: its bytes as they are.
-fn emid(c: Cursor, out: &mut [u8], raw: &[u8], id: Text) -> Cursor
+fn emid(c: Cursor, out: &mut [u8], raw: &[u8], id: Option<Extent>) -> Cursor
     ensures { Appended out.old c.at (bytes (emid raw.now id)) out.new result.at }
 {
     match id {
-        Text::Absent => {
-            return c;
-        }
-        Text::Given(e) => {
-            let first = e.first(raw.len());
-            let end = e.end(raw.len());
-            return c.chunk(out, *b"EMID", &raw[first..end]);
-        }
+        Some(e) => c.chunk(out, *b"EMID", &raw[e.first(raw.len())..e.end(raw.len())]),
+        None => c,
     }
 }
 
 // The markers, each a MARK.
-fn markers(
-    c: Cursor,
-    out: &mut [u8],
-    pool: &[u32],
-    raw: &[u8],
-    tracks: &[u32],
-    custom: &[u32],
-    info: Info,
-) -> Cursor
+fn markers(c: Cursor, out: &mut [u8], given: &Given<'_>, info: Info) -> Cursor
     ensures { Appended out.old c.at
-        (bytes (each (mark pool.now raw.now (marking info)) (markers_of tracks.now custom.now info)))
+        (bytes (each (mark given.now.pools.text.now given.now.pools.bytes.now (marking info)) (markers_of given.now.tracks.now given.now.markers.now info)))
         out.new result.at }
 {
-    let p = info.program;
-    let text = info.text;
-    let start = info.start;
     let how = Marking {
-        text: text,
-        start: start,
-        first: p.first,
+        text: info.text,
+        start: info.start,
+        first: info.program.first,
     };
     if info.custom_markers {
-        return markers::custom::custom(c, out, pool, raw, custom, how);
+        custom(c, out, &given.pools, given.markers, how)
+    } else {
+        from_toc(c, out, &given.pools, given.tracks, how, info.program)
     }
-    track_markers::from_toc::from_toc(c, out, pool, raw, tracks, how, p)
 }
 
 // One of the texts of track and album, if they are wanted.
-fn chosen(info: Info, track: Text, album: Text) -> Text
+fn chosen(info: Info, track: Option<Extent>, album: Option<Extent>) -> Option<Extent>
     ensures { result ≡ chosen info track album }
 {
-    let source = info.artist_title_source;
-    let p = info.program;
-    if !info.artist_title {
-        return Text::Absent;
+    if info.artist_title {
+        let has_source = info.program.source_track != 0;
+        pick(info.artist_title_source, has_source, track, album)
+    } else {
+        None
     }
-    crate::pick::pick(source, p.source_track != 0, track, album)
 }
 
 // A chunk of DIIN, or the run of MARK chunks.
-fn info_chunk(
-    c: Cursor,
-    out: &mut [u8],
-    pool: &[u32],
-    raw: &[u8],
-    tracks: &[u32],
-    custom: &[u32],
-    info: Info,
-    part: InfoChunk,
-) -> Cursor
+fn info_chunk(c: Cursor, out: &mut [u8], given: &Given<'_>, info: Info, part: InfoChunk) -> Cursor
     ensures { Appended out.old c.at
-        (bytes (info_chunk pool.now raw.now tracks.now custom.now info part))
+        (bytes (info_chunk given.now.pools.text.now given.now.pools.bytes.now given.now.tracks.now given.now.markers.now info part))
         out.new result.at }
 {
     match part {
-        InfoChunk::EditedMasterId => {
-            let id = info.emid;
-            return emid(c, out, raw, id);
-        }
-        InfoChunk::Markers => {
-            return markers(c, out, pool, raw, tracks, custom, info);
-        }
+        InfoChunk::EditedMasterId => emid(c, out, given.pools.bytes, info.emid),
+        InfoChunk::Markers => markers(c, out, given, info),
         InfoChunk::Artist => {
-            let options = info.text;
-            let track = info.track;
-            let album = info.album;
-            let track = track.artist;
-            let album = album.artist;
-            let text = chosen(info, track, album);
-            return diin_texts::diin_text::diin_text(c, out, *b"DIAR", pool, text, options);
+            let text = chosen(info, info.track.artist, info.album.artist);
+            diin_text(c, out, *b"DIAR", given.pools.text, text, info.text)
         }
         InfoChunk::Title => {
-            let options = info.text;
-            let track = info.track;
-            let album = info.album;
-            let track = track.title;
-            let album = album.title;
-            let text = chosen(info, track, album);
-            return diin_texts::diin_text::diin_text(c, out, *b"DITI", pool, text, options);
+            let text = chosen(info, info.track.title, info.album.title);
+            diin_text(c, out, *b"DITI", given.pools.text, text, info.text)
         }
     }
 }
@@ -134,67 +105,57 @@ fn info_chunk(
 fn diin_data(
     c: Cursor,
     out: &mut [u8],
-    pool: &[u32],
-    raw: &[u8],
-    tracks: &[u32],
-    custom: &[u32],
+    given: &Given<'_>,
     order: [InfoChunk; 4],
     info: Info,
 ) -> Cursor
     ensures { Appended out.old c.at
-        (bytes (info_chunks pool.now raw.now tracks.now custom.now info order))
+        (bytes (info_chunks given.now.pools.text.now given.now.pools.bytes.now given.now.tracks.now given.now.markers.now info order))
         out.new result.at }
 {
     let mut c = c;
-    let mut i = 0;
-    while i < 4 {
-        c = info_chunk(c, out, pool, raw, tracks, custom, info, order[i]);
-        i += 1;
+    for part in &order {
+        c = info_chunk(c, out, given, info, *part);
     }
     c
+}
+
+// Whether there is a DIIN, by its measured size, which stops at the largest number.
+#[tactic(auto, using(std::proofs::lemmas::Bool::Decides::nat_tests))]
+fn is_written(info: Info, size: usize) -> bool
+    ensures { result ≡ (info.on && ((info.empty_info || not (eqb size 0)) && not (eqb size usize.MAX))) }
+{
+    info.on && (info.empty_info || size != 0) && size != usize::MAX
 }
 
 // DIIN: none if info is off, if it would be empty, unless that is wanted, or if its size passes what a cursor can tell.
 pub fn diin(
     c: Cursor,
     out: &mut [u8],
-    pool: &[u32],
-    raw: &[u8],
-    tracks: &[u32],
-    custom: &[u32],
+    given: &Given<'_>,
     order: [InfoChunk; 4],
     info: Info,
 ) -> Cursor
     ensures { Appended out.old c.at
-        (bytes (diin pool.now raw.now tracks.now custom.now info order))
+        (bytes (diin given.now.pools.text.now given.now.pools.bytes.now given.now.tracks.now given.now.markers.now info order))
         out.new result.at }
 {
-    let mut empty = [0u8; 0];
-    let measured = diin_data(
-        Cursor::new(),
-        &mut empty,
-        pool,
-        raw,
-        tracks,
-        custom,
-        order,
-        info,
-    );
-    let length = measured.at;
-    if !(info.on & ((info.empty_info | (length != 0)) & (length != usize::MAX))) {
+    let measured = diin_data(Cursor::new(), &mut [], given, order, info);
+    if !is_written(info, measured.at) {
         return c;
     }
-    let size_at = c.name(out, *b"DIIN");
-    let from = size_at.data_start(out.len());
-    let end = diin_data(
-        Cursor::new(),
-        &mut out[from..],
-        pool,
-        raw,
+    // The slices one by one: of a closure that captures a struct of references it is not known what it appends.
+    let Given {
+        pools: Pools { text, bytes },
         tracks,
-        custom,
-        order,
-        info,
-    );
-    size_at.close(out, end)
+        markers,
+    } = *given;
+    c.chunk_of(out, *b"DIIN", |c, out| {
+        let given = Given {
+            pools: Pools { text, bytes },
+            tracks,
+            markers,
+        };
+        diin_data(c, out, &given, order, info)
+    })
 }

@@ -1,8 +1,8 @@
 // Whose artist and title DIIN has: the album's or the track's.
 ghost use Rattle.std.specs.Prelude.{◌≡◌};
-ghost use Rattle.master_info.specs.Pick.{of_track, first_present, pick};
+ghost use Rattle.master_info.specs.Pick.{of_track, pick};
 
-use diin_texts::diin_text::Text;
+use texts::extent::Extent;
 
 #[derive(Clone, Copy)]
 pub enum ArtistTitleSource {
@@ -11,49 +11,32 @@ pub enum ArtistTitleSource {
     TrackThenAlbum, // the first that is present
 }
 
-// The artist and the title of an album or of a track.
+// The artist and the title of an album or of a track, if they are given.
 #[derive(Clone, Copy)]
 pub struct ArtistTitle {
-    pub artist: Text,
-    pub title: Text,
+    pub artist: Option<Extent>,
+    pub title: Option<Extent>,
 }
 
 // A track's text: none without a source track.
-fn of_track(has_source: bool, track: Text) -> Text
+fn of_track(has_source: bool, track: Option<Extent>) -> Option<Extent>
     ensures { result ≡ of_track has_source track }
 {
-    if has_source {
-        return track;
-    }
-    Text::Absent
+    if has_source { track } else { None }
 }
 
-fn first_present(a: Text, b: Text) -> Text
-    ensures { result ≡ first_present a b }
-{
-    match a {
-        Text::Absent => {
-            return b;
-        }
-        Text::Given(e) => {
-            return Text::Given(e);
-        }
-    }
-}
-
-pub(crate) fn pick(source: ArtistTitleSource, has_source: bool, track: Text, album: Text) -> Text
+pub(crate) fn pick(
+    source: ArtistTitleSource,
+    has_source: bool,
+    track: Option<Extent>,
+    album: Option<Extent>,
+) -> Option<Extent>
     ensures { result ≡ pick source has_source track album }
 {
     let track = of_track(has_source, track);
     match source {
-        ArtistTitleSource::Album => {
-            return album;
-        }
-        ArtistTitleSource::Track => {
-            return track;
-        }
-        ArtistTitleSource::TrackThenAlbum => {
-            return first_present(track, album);
-        }
+        ArtistTitleSource::Album => album,
+        ArtistTitleSource::Track => track,
+        ArtistTitleSource::TrackThenAlbum => track.or(album),
     }
 }
