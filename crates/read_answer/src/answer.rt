@@ -1,77 +1,32 @@
 // The answers of a query and of a read.
 ghost use Rattle.std.specs.Prelude.{◌≡◌};
-ghost use Rattle.read_answer.specs.Answer.{query_number, query_values, read_number, read_value};
+ghost use Rattle.read_answer.specs.Answer.{query_values, read_value};
 
+use refusal::verdict::Refusal;
 use sound_reads::place::Positions;
 
-#[derive(Clone, Copy)]
-pub enum QueryAnswer {
-    Needed(Positions), // the positions that the read needs
-    Refused { number: u8, detail: u64 }, // document 01's number of the refusal
-}
+// The positions that a read needs, or the refusal. Its number is `refusal::verdict::number_of`.
+pub type QueryAnswer = Result<Positions, Refusal>;
 
-#[derive(Clone, Copy)]
-pub enum ReadAnswer {
-    Filled(u64), // how many bytes, from the buffer's front on
-    Refused { number: u8, detail: u64 },
-}
+// How many bytes were filled, from the buffer's front on, or the refusal.
+pub type ReadAnswer = Result<u64, Refusal>;
 
-impl QueryAnswer {
-    // Document 01's number, 0 where nothing is refused.
-    pub fn number(self) -> u8
-        ensures { result ≡ query_number self }
-    {
-        match self {
-            QueryAnswer::Needed(_) => {
-                return 0;
-            }
-            QueryAnswer::Refused { number, detail: _ } => {
-                return number;
-            }
-        }
-    }
-
-    // The first position and one past the last, or the detail of a refusal and a zero.
-    pub fn values(self) -> [u64; 2]
-        ensures { result ≡ query_values self }
-    {
-        match self {
-            QueryAnswer::Needed(p) => {
-                return [p.first as u64, p.end as u64];
-            }
-            QueryAnswer::Refused { number: _, detail } => {
-                return [detail, 0];
-            }
-        }
+// The first position and one past the last, or the detail of a refusal and a zero.
+pub fn query_values(answer: QueryAnswer) -> [u64; 2]
+    ensures { result ≡ query_values answer }
+{
+    match answer {
+        Ok(positions) => [positions.first as u64, positions.end as u64],
+        Err(refusal) => [refusal.detail(), 0],
     }
 }
 
-impl ReadAnswer {
-    // Document 01's number, 0 where nothing is refused.
-    pub fn number(self) -> u8
-        ensures { result ≡ read_number self }
-    {
-        match self {
-            ReadAnswer::Filled(_) => {
-                return 0;
-            }
-            ReadAnswer::Refused { number, detail: _ } => {
-                return number;
-            }
-        }
-    }
-
-    // How many bytes were filled, or the detail of a refusal.
-    pub fn value(self) -> u64
-        ensures { result ≡ read_value self }
-    {
-        match self {
-            ReadAnswer::Filled(count) => {
-                return count;
-            }
-            ReadAnswer::Refused { number: _, detail } => {
-                return detail;
-            }
-        }
+// How many bytes were filled, or the detail of a refusal.
+pub fn read_value(answer: ReadAnswer) -> u64
+    ensures { result ≡ read_value answer }
+{
+    match answer {
+        Ok(count) => count,
+        Err(refusal) => refusal.detail(),
     }
 }

@@ -1,8 +1,8 @@
 -- 42: "Read or query: channels or a length as in 7 or 10, over 1,151,999 positions, or header or trailer over 2^40 bytes". Assumes nothing.
 use Rattle.std.specs.Prelude.{ℕ, ◌^◌, Bool, false, ◌||◌, List, ltb}
 use Rattle.rows.specs.Lengths.{lengths_wrong}
-use Rattle.refusal.specs.Verdict.{refuse_if}
-use Rattle.refusal.specs.declared.verdict.Verdict.{Verdict}
+use Rattle.refusal.specs.Verdict.{Verdict, refuse_if}
+use Rattle.refusal.specs.declared.verdict.Refusal.TheVariants.{Format}
 use Rattle.prop_fields.specs.declared.compression.Sound.{Sound}
 use Rattle.prop_fields.specs.declared.compression.Sound.TheVariants.{Dsd, Dst}
 use Rattle.read_rules.specs.declared.format.SoundFormat.{SoundFormat}
@@ -32,4 +32,4 @@ format_fault f lengths header trailer =
     refuse_if
     ((((channels_wrong f.channels || bad_length f lengths) || ltb most_positions (position_count f lengths)) || ltb longest_side header)
     || ltb longest_side trailer)
-    42 0
+    Format

@@ -4,7 +4,7 @@ ghost use Rattle.read_rules.specs.Format.{position_count};
 ghost use Rattle.read_rules.specs.Fault.{bad_length, format_fault};
 
 use prop_fields::compression::Sound;
-use refusal::verdict::{Verdict, refuse_if};
+use refusal::verdict::{Refusal, Verdict, refuse_if};
 
 // What is told besides the lengths of DST frames. The number of positions is that of DSD; DST has as many as lengths.
 #[derive(Clone, Copy)]
@@ -24,14 +24,9 @@ impl SoundFormat {
     fn position_count(self, lengths: &[u32]) -> u64
         ensures { result ≡ position_count self lengths.now }
     {
-        let sound = self.sound;
-        match sound {
-            Sound::Dsd => {
-                return self.positions as u64;
-            }
-            Sound::Dst => {
-                return lengths.len() as u64;
-            }
+        match self.sound {
+            Sound::Dsd => self.positions as u64,
+            Sound::Dst => lengths.len() as u64,
         }
     }
 
@@ -39,14 +34,9 @@ impl SoundFormat {
     fn lengths_wrong(self, lengths: &[u32]) -> bool
         ensures { result ≡ bad_length self lengths.now }
     {
-        let sound = self.sound;
-        match sound {
-            Sound::Dsd => {
-                return false;
-            }
-            Sound::Dst => {
-                return rows::lengths::lengths_wrong(lengths);
-            }
+        match self.sound {
+            Sound::Dsd => false,
+            Sound::Dst => rows::lengths::lengths_wrong(lengths),
         }
     }
 
@@ -54,17 +44,11 @@ impl SoundFormat {
     pub fn fault(self, lengths: &[u32], header: u64, trailer: u64) -> Verdict
         ensures { result ≡ format_fault self lengths.now header trailer }
     {
-        let channels = self.channels;
-        let count = self.position_count(lengths);
-        let wrong = self.lengths_wrong(lengths);
-        refuse_if(
-            ((channels < 1) | (6 < channels))
-                | wrong
-                | (MOST_POSITIONS < count)
-                | (LONGEST_SIDE < header)
-                | (LONGEST_SIDE < trailer),
-            42,
-            0,
-        )
+        let wrong = ((self.channels < 1) | (6 < self.channels))
+            | self.lengths_wrong(lengths)
+            | (MOST_POSITIONS < self.position_count(lengths))
+            | (LONGEST_SIDE < header)
+            | (LONGEST_SIDE < trailer);
+        refuse_if(wrong, Refusal::Format)
     }
 }

@@ -4,4 +4,4 @@ use Rattle.read_rules.proofs.format.SoundFormat.fault.Goals as goal
 
 pub returns : goal.returns
 unfolding format_fault
-returns c = rw (c.refuse_if.ensures, c.lengths_wrong-wrong.ensures, c.position_count-count.ensures)
+returns c = rw (c.refuse_if.ensures, c.lengths_wrong.ensures, c.position_count.ensures)
