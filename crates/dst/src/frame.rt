@@ -1,5 +1,5 @@
 // A frame's plain content.
-ghost use Rattle.std.specs.Prelude.{◌≡◌, cond};
+ghost use Rattle.std.specs.Prelude.{◌≡◌};
 ghost use Rattle.dst.specs.Frame.{frame_bytes, plain_bytes};
 
 const FRAME_BYTES_PER_CHANNEL: usize = 4704;

@@ -1,5 +1,5 @@
 // The index of the frames: the chunk DSTI.
-ghost use Rattle.std.specs.Prelude.{◌≡◌, ◌*◌};
+ghost use Rattle.std.specs.Prelude.{◌≡◌};
 ghost use Rattle.chunk.specs.Append.{Appended, moved};
 ghost use Rattle.dst_index.specs.Index.{shift_of, entry, index, dsti};
 

@@ -1,13 +1,12 @@
 -- The laws of `positions_for` of specs/Positions.antt: which positions so many bytes from a place on touch. Assumes nothing.
 use mathlib.Core.Path.{◌≡◌, refl, sym}
 use mathlib.Core.Logic.{◌⊎◌, inl, inr, ⊎_elim}
-use mathlib.Core.Bool.{Bool, true, false, ◌||◌}
+use mathlib.Core.Bool.{Bool, true, false}
 use mathlib.Core.List.{List}
 use Prim.Native.Nat.{ℕ, zero, suc, ◌+◌, ◌-◌, ◌≤◌, ◌<◌, min, max}
 use native.Mathlib.Nat.{not-suc-le-zero}
 use native.Mathlib.Omega.{arith}
-use borrow.Author.Tests.{lt-ltb, le-ltb, eqb-true, eqb-false, leb-true, leb-false}
-use lib.Dec.{eqb, leb}
+use borrow.Author.Tests.{lt-ltb, le-ltb}
 use lib.ListN.{length, get_or}
 use Rattle.sound_reads.specs.declared.place.Place.{Place}
 use Rattle.dst.specs.Start.{start}
@@ -15,7 +14,7 @@ use Rattle.sound_reads.specs.Place.{first_where}
 use Rattle.sound_reads.specs.Steps.{byte_at}
 use Rattle.sound_reads.specs.Positions.{touched, past_last, range, positions_for}
 use Rattle.dst.proofs.StartLaws.{start-suc, start_mono}
-use Rattle.window.proofs.TestLaws.{either, neither, lt-or-le}
+use Rattle.window.proofs.TestLaws.{lt-or-le}
 use Rattle.sound_reads.proofs.PlaceLaws.{first-is, Found, found}
 
 -- the last that passes

@@ -1,6 +1,5 @@
 // What a read is lent, for the positions that it needs: their lengths, their DST bytes joined, and their plain contents joined.
 ghost use Rattle.std.specs.Prelude.{◌≡◌, ◌-◌, ◌*◌, ◌^◌, min, cond, eqb, ltb};
-ghost use Rattle.chunk_names.specs.Name.{same};
 ghost use Rattle.dst.specs.Start.{sum};
 ghost use Rattle.sound_reads.specs.Lent.{is_lent};
 

@@ -1,4 +1,5 @@
 // Places in the sound, and the positions that a read touches.
+
 // A place in the sound: a position, and the bytes of its unit before the place. Past the sound's end it is the number of positions, and the
 // bytes from that end on.
 #[derive(Clone, Copy)]
