@@ -18,6 +18,7 @@ fn lengths_wanted(area: Area) -> u32
 }
 
 // 6 to 8
+#[tactic(auto, using(refusal::proofs::VerdictLaws::in_turn), unfolding(crate::specs::Area::area_fault))]
 fn area_fault(area: Area) -> Verdict
     ensures { result ≡ area_fault area }
 {
@@ -28,6 +29,7 @@ fn area_fault(area: Area) -> Verdict
 }
 
 // 9 and 10
+#[tactic(auto, using(refusal::proofs::VerdictLaws::in_turn), unfolding(crate::specs::Area::lengths_fault))]
 fn lengths_fault(area: Area, lengths: &[u32]) -> Verdict
     ensures { result ≡ lengths_fault area lengths.now }
 {
@@ -41,6 +43,7 @@ fn lengths_fault(area: Area, lengths: &[u32]) -> Verdict
 }
 
 // 11 and 12
+#[tactic(auto, using(refusal::proofs::VerdictLaws::in_turn), unfolding(crate::specs::Area::range_fault))]
 fn range_fault(area: Area) -> Verdict
     ensures { result ≡ range_fault area }
 {
@@ -49,6 +52,7 @@ fn range_fault(area: Area) -> Verdict
 }
 
 // 6 to 12
+#[tactic(auto, using(refusal::proofs::VerdictLaws::in_turn), unfolding(crate::specs::Area::area_faults))]
 pub fn area_faults(area: Area, lengths: &[u32]) -> Verdict
     ensures { result ≡ area_faults area lengths.now }
 {

@@ -15,6 +15,7 @@ use tracks::track::track_span;
 const MOST_MASTER_TRACKS: usize = 255;
 
 // 13 and 14
+#[tactic(auto, using(refusal::proofs::VerdictLaws::in_turn), unfolding(crate::specs::Master::source_fault))]
 fn source_fault(area: Area, tracks: &[u32], source_track: u16) -> Verdict
     ensures { result ≡ source_fault area tracks.now source_track }
 {
@@ -28,6 +29,7 @@ fn source_fault(area: Area, tracks: &[u32], source_track: u16) -> Verdict
 }
 
 // 15 to 17
+#[tactic(auto, using(refusal::proofs::VerdictLaws::in_turn), unfolding(crate::specs::Master::master_area_fault))]
 fn master_area_fault(area: Area, tracks: &[u32]) -> Verdict
     ensures { result ≡ master_area_fault area tracks.now }
 {
@@ -46,6 +48,7 @@ fn last_end(tracks: &[u32]) -> u32
 }
 
 // 18 to 20
+#[tactic(auto, using(refusal::proofs::VerdictLaws::in_turn), unfolding(crate::specs::Master::master_tracks_fault))]
 fn master_tracks_fault(tracks: &[u32]) -> Verdict
     ensures { result ≡ master_tracks_fault tracks.now }
 {
@@ -55,6 +58,7 @@ fn master_tracks_fault(tracks: &[u32]) -> Verdict
 }
 
 // 21 to 23
+#[tactic(auto, using(refusal::proofs::VerdictLaws::in_turn), unfolding(crate::specs::Master::master_options_fault))]
 fn master_options_fault(o: Options) -> Verdict
     ensures { result ≡ master_options_fault o }
 {
@@ -64,6 +68,7 @@ fn master_options_fault(o: Options) -> Verdict
 }
 
 // 15 to 23
+#[tactic(auto, using(refusal::proofs::VerdictLaws::in_turn), unfolding(crate::specs::Master::edited_master_fault))]
 fn check_edited_master(area: Area, o: Options, tracks: &[u32]) -> Verdict
     ensures { result ≡ edited_master_fault area o tracks.now }
 {
@@ -76,6 +81,7 @@ fn check_edited_master(area: Area, o: Options, tracks: &[u32]) -> Verdict
 }
 
 // 13 to 23
+#[tactic(auto, using(refusal::proofs::VerdictLaws::in_turn), unfolding(crate::specs::Master::track_faults))]
 pub fn track_faults(area: Area, o: Options, s: Settings, tracks: &[u32]) -> Verdict
     ensures { result ≡ track_faults area o s tracks.now }
 {

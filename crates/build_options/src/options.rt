@@ -61,6 +61,7 @@ const NO_TEXTS: ArtistTitle = ArtistTitle {
     title: None,
 };
 
+#[tactic(auto, unfolding(crate::specs::Options::defaults))]
 pub fn defaults() -> Options
     ensures { result ≡ defaults }
 {
@@ -95,6 +96,7 @@ pub fn defaults() -> Options
 }
 
 // What an edited master changes: a missing start is 0, info is on, artist and title are there unless switched off, and there is no source track.
+#[tactic(auto, unfolding(crate::specs::Options::effective))]
 pub fn effective(o: Options) -> Settings
     ensures { result ≡ effective o }
 {

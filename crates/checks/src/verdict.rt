@@ -16,6 +16,7 @@ use rules::limits::limit_faults;
 use rules::property::property_faults;
 
 // 1 to 5
+#[tactic(auto, using(refusal::proofs::VerdictLaws::in_turn), unfolding(crate::specs::InputVerdict::given_faults))]
 fn given_faults(inputs: &Inputs<'_>) -> Verdict
     ensures {
         let x = inputs_of inputs.now in result ≡ given_faults x.options x.pool x.raw x.tracks x.markers x.comments x.callers }
@@ -25,6 +26,7 @@ fn given_faults(inputs: &Inputs<'_>) -> Verdict
 }
 
 // 30 to 39
+#[tactic(auto, using(refusal::proofs::VerdictLaws::in_turn), unfolding(crate::specs::InputVerdict::chunk_faults))]
 fn chunk_faults(inputs: &Inputs<'_>, s: Settings) -> Verdict
     ensures {
         let x = inputs_of inputs.now in
@@ -38,6 +40,7 @@ fn chunk_faults(inputs: &Inputs<'_>, s: Settings) -> Verdict
 }
 
 // The first refusal, or that the build is accepted.
+#[tactic(auto, using(refusal::proofs::VerdictLaws::in_turn), unfolding(crate::specs::InputVerdict::verdict))]
 pub fn verdict(inputs: &Inputs<'_>) -> Verdict
     ensures { result ≡ verdict (inputs_of inputs.now) }
 {

@@ -81,6 +81,7 @@ fn lacks_comt(order: &[LocalChunk], inputs: &Inputs<'_>, text: TextOptions) -> b
 }
 
 // Whether a chunk will be written that the order does not name.
+#[tactic(auto, unfolding(crate::specs::Local::lacks_any))]
 fn lacks_any(order: &[LocalChunk], inputs: &Inputs<'_>, info: Info) -> bool
     ensures {
         let x = inputs_of inputs.now in
@@ -95,6 +96,7 @@ fn lacks_any(order: &[LocalChunk], inputs: &Inputs<'_>, info: Info) -> bool
 }
 
 // 37 to 39
+#[tactic(auto, using(refusal::proofs::VerdictLaws::in_turn), unfolding(crate::specs::Local::local_faults))]
 pub fn local_faults(inputs: &Inputs<'_>, info: Info) -> Verdict
     ensures {
         let x = inputs_of inputs.now in

@@ -22,6 +22,7 @@ fn id_wrong(raw: &[u8], id: Option<Extent>) -> bool
 }
 
 // 30 to 33
+#[tactic(auto, using(refusal::proofs::VerdictLaws::in_turn), unfolding(crate::specs::Info::info_faults))]
 pub fn info_faults(
     area: Area,
     info: Info,

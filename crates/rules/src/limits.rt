@@ -24,6 +24,7 @@ const MOST_MARKERS: u64 = 65_535;
 const ANY: u64 = u64::MAX;
 
 // 1 and 2 of all rows. Given markers count only if they are wanted.
+#[tactic(auto, unfolding(crate::specs::Limits::any_too_large, crate::specs::Limits::any_outside))]
 fn row_faults(inputs: &Inputs<'_>) -> RowFaults
     ensures too_large_value {
         let x = inputs_of inputs.now in result.too_large ≡ any_too_large x.options x.tracks x.markers x.comments x.callers }
@@ -59,6 +60,7 @@ fn row_faults(inputs: &Inputs<'_>) -> RowFaults
 }
 
 // Whether a text has a value that is no scalar.
+#[tactic(auto, unfolding(crate::specs::Limits::any_no_scalar))]
 fn any_no_scalar(inputs: &Inputs<'_>) -> bool
     ensures { let x = inputs_of inputs.now in result ≡ any_no_scalar x.options x.pool x.tracks x.comments }
 {
@@ -70,6 +72,7 @@ fn any_no_scalar(inputs: &Inputs<'_>) -> bool
 }
 
 // 1 to 3
+#[tactic(auto, using(refusal::proofs::VerdictLaws::in_turn), unfolding(crate::specs::Limits::limit_faults))]
 pub fn limit_faults(inputs: &Inputs<'_>) -> Verdict
     ensures {
         let x = inputs_of inputs.now in result ≡ limit_faults x.options x.pool x.raw x.tracks x.markers x.comments x.callers }

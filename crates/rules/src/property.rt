@@ -24,6 +24,7 @@ fn replacement_wrong(replacement: Option<u8>) -> bool
 }
 
 // 25 to 27, of an unspecified layout whose channel numbers are given
+#[tactic(auto, using(refusal::proofs::VerdictLaws::in_turn), unfolding(crate::specs::Property::numbers_fault))]
 fn numbers_fault(area: Area, numbers: Option<ChannelNumbers>) -> Verdict
     ensures { result ≡ numbers_fault area numbers }
 {
@@ -39,6 +40,7 @@ fn numbers_fault(area: Area, numbers: Option<ChannelNumbers>) -> Verdict
 }
 
 // 29
+#[tactic(auto, using(refusal::proofs::VerdictLaws::in_turn), unfolding(crate::specs::Property::start_fault))]
 fn start_fault(area: Area, start: Option<u32>) -> Verdict
     ensures { result ≡ start_fault area start }
 {
@@ -52,6 +54,7 @@ fn start_fault(area: Area, start: Option<u32>) -> Verdict
 }
 
 // 24 to 29
+#[tactic(auto, using(refusal::proofs::VerdictLaws::in_turn), unfolding(crate::specs::Property::property_faults))]
 pub fn property_faults(area: Area, o: Options, s: Settings, order: [PropertyChunk; 5]) -> Verdict
     ensures { result ≡ property_faults area o s order }
 {

@@ -23,6 +23,7 @@ fn beyond(words: &[u32], first: u8, count: u8, most: u32, refusal: Refusal) -> V
 }
 
 // There are 67 words (2), and a field holds its word: channels (7), layout (8), source track (13), replacement (24), channel numbers (26).
+#[tactic(auto, using(refusal::proofs::VerdictLaws::in_turn), unfolding(crate::specs::Border::field_faults))]
 fn field_faults(words: &[u32]) -> Verdict
     ensures { result ≡ field_faults words.now }
 {
@@ -35,6 +36,7 @@ fn field_faults(words: &[u32]) -> Verdict
 }
 
 // A number names something: in the orders of PROP (28), DIIN (30) and the local chunks (37), and for artist and title (30), their switch and their source.
+#[tactic(auto, using(refusal::proofs::VerdictLaws::in_turn), unfolding(crate::specs::Border::name_faults))]
 fn name_faults(words: &[u32]) -> Verdict
     ensures { result ≡ name_faults words.now }
 {
@@ -45,6 +47,7 @@ fn name_faults(words: &[u32]) -> Verdict
 }
 
 // The first fault of the words.
+#[tactic(auto, using(refusal::proofs::VerdictLaws::in_turn), unfolding(crate::specs::Border::words_fault))]
 pub fn words_fault(words: &[u32]) -> Verdict
     ensures { result ≡ words_fault words.now }
 {
