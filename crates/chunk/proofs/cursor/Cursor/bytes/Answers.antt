@@ -8,9 +8,9 @@ use Rattle.chunk.proofs.cursor.Cursor.bytes.Goals.{then-src-room, else-src-room}
 pub returns : goal.returns
 returns c = elim c.if-src-room.branch [
   | then-src-room w ↦
-      copied (length c.args.src.now) _ (search rules) (search rules) (omega arith) (omega arith)
+      copied (length c.args.src.now) _ {p = c.min-at.result} (search rules) (search rules) (omega arith) (omega arith)
       (w.copy_from_slice.ensures.after ∙ sym (take-length c.args.src.now)) w.out-is c.skip.ensures
   | else-src-room w ↦
-      copied (length c.args.out.now - c.min-at.result) _ (search rules) (search rules) (omega arith) (omega arith)
+      copied (length c.args.out.now - c.min-at.result) _ {p = c.min-at.result} (search rules) (search rules) (omega arith) (omega arith)
       w.copy_from_slice-else-src-room.ensures.after w.out-is c.skip.ensures
 ]
