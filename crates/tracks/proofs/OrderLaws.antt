@@ -2,16 +2,16 @@
 use mathlib.Core.Path.{◌≡◌, refl}
 use mathlib.Core.Bool.{Bool, true, false, ◌&&◌, ◌||◌, and_assoc, and-true, and-false, or-true, and-eq-true_iff}
 use mathlib.Core.List.{List, [], ◌∷◌, ◌++◌, map, map-append, flat_map, append-nil}
-use Prim.Native.Nat.{ℕ, ◌+◌, ◌-◌, ◌/◌, ◌^◌, ◌≤◌, ◌<◌, min, max}
+use Prim.Native.Nat.{ℕ, ◌+◌, ◌-◌, ◌^◌, min, max}
 use native.Mathlib.Omega.{arith}
-use lib.ListN.{length, take, get_or}
+use lib.ListN.{get_or}
 use lib.Dec.{leb}
 use Rattle.chunk.specs.Rows.{rows}
-use Rattle.tracks.specs.Track.{span_of, span_at, spans, clip, has_frames, kept, clipped, in_order, end_after, all_have_frames, exact, any_spans}
+use Rattle.tracks.specs.Track.{span_of, spans, clip, has_frames, kept, clipped, in_order, end_after, all_have_frames, exact, any_spans}
 use Rattle.tracks.specs.Steps.{order_with}
 use Rattle.tracks.specs.declared.track.Span.{Span}
 use Rattle.tracks.specs.declared.order.Order.{Order}
-use Rattle.tracks.proofs.TrackLaws.{spans-next, spans_all, clipped-next}
+use Rattle.tracks.proofs.TrackLaws.{clipped-append, clipped-one}
 
 pub end_after-snoc : (after : ℕ) (xs : List Span) (s : Span) → end_after after (xs ++ (s ∷ [])) ≡ s.end
 unfolding end_after
@@ -60,22 +60,18 @@ known_next s false e k =
       end = k.end;
     })
 
-module _ (first end : ℕ) (words : List ℕ) where
-  -- what is known after the first i tracks, clipped to a range
-  abbrev pub Passed : ℕ → Order → Type 0
-  Passed i o = let ss = take i (spans words) in Known o (map (clip first end) ss) (clipped first end ss)
+module _ (first end : ℕ) where
+  -- what is known of spans, clipped to a range
+  abbrev pub Passed : List Span → Order → Type 0
+  Passed ss o = Known o (map (clip first end) ss) (clipped first end ss)
 
-  pub passed_none : Passed 0 (record { left = false; whole = true; ordered = true; end = 0 })
+  pub passed_none : Passed [] (record { left = false; whole = true; ordered = true; end = 0 })
   unfolding clipped flat_map any_spans all_have_frames in_order end_after
   passed_none = record { left = refl; whole = refl; ordered = refl; end = refl }
 
-  pub passed-next : (i : ℕ) {o : Order} → i < length words / 4 → Passed i o → Passed (i + 1) (order_with o (clip first end (span_at words i)))
-  passed-next i more k =
-      let s = clip first end (span_at words i) in
-      rw (clipped-next first end words i more, spans-next words i more, map-append) (known_next s (has_frames s) refl k)
-
-  pub passed_all : (i : ℕ) {o : Order} → length words / 4 ≤ i → Passed i o → Known o (map (clip first end) (spans words)) (clipped first end (spans words))
-  passed_all i done k = rw (spans_all words i done) at k
+  pub passed-next : (ss : List Span) (s : Span) {o : Order} → Passed ss o → Passed (ss ++ (s ∷ [])) (order_with o (clip first end s))
+  passed-next ss s k =
+      rw (clipped-append first end ss (s ∷ []), clipped-one first end s, map-append) (known_next (clip first end s) (has_frames (clip first end s)) refl k)
 
 -- clipping to all frames changes no span of a row
 all_frames : (row : List ℕ) → clip 0 (2 ^ 32 - 1) (span_of row) ≡ span_of row

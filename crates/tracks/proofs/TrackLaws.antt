@@ -1,10 +1,10 @@
 -- The laws of the tracks' spans, one more at a time. Assumes nothing.
 use mathlib.Core.Path.{◌≡◌, sym, ◌∙◌}
 use mathlib.Core.List.{List, [], ◌∷◌, ◌++◌, map}
-use Prim.Native.Nat.{ℕ, ◌+◌, ◌-◌, ◌*◌, ◌/◌, ◌≤◌, ◌<◌}
+use Prim.Native.Nat.{ℕ, suc, ◌+◌, ◌-◌, ◌*◌, ◌/◌, ◌≤◌, ◌<◌}
 use native.Mathlib.Omega.{arith}
-use lib.ListN.{length, take, drop, drop_of_length-le, get_or-map}
-use lib.Seq.{take_all, drop-cons}
+use lib.ListN.{length, take, drop, drop_of_length-le, get_or-map, length-append}
+use lib.Seq.{take_all, drop-cons, take-append_seam, drop-append_seam}
 use borrow.Author.Tests.{lt-ltb}
 use Rattle.chunk.specs.Rows.{first_rows, rows}
 use Rattle.chunk.proofs.ListLaws.{flat_map-append, flat_map-one}
@@ -41,6 +41,19 @@ module _ (words : List ℕ) (i : ℕ) where
   pub span_there : i < length words / 4 → track_span words i ≡ span_at words i
   unfolding track_span
   span_there more = rw (lt-ltb _ _ more)
+
+-- the first track, and the others; words that make no track
+pub spans_front : (row rest : List ℕ) → length row ≡ 4 → spans (row ++ rest) ≡ span_of row ∷ spans rest
+unfolding spans rows first_rows
+spans_front row rest four =
+    let n : length (row ++ rest) / 4 ≡ suc (length rest / 4) = rw length-append (omega arith) in
+    let front : take 4 (row ++ rest) ≡ row = rw (sym four) (take-append_seam row rest) in
+    let back : drop 4 (row ++ rest) ≡ rest = rw (sym four) (drop-append_seam row rest) in
+    rw (n, front, back)
+
+pub spans_none : (rest : List ℕ) → length rest < 4 → spans rest ≡ []
+unfolding spans rows first_rows
+spans_none rest few = let n : length rest / 4 ≡ 0 = omega arith in rw n
 
 -- a row that is lent alone
 one-row : (row : List ℕ) → length row ≡ 4 → spans row ≡ span_of row ∷ []

@@ -4,7 +4,7 @@ ghost use Rattle.tracks.specs.Track.{spans, clip, clipped, in_order, end_after, 
 ghost use Rattle.tracks.specs.Order.{is_play_range, has_program};
 ghost use Rattle.tracks.specs.Steps.{order_with};
 
-use crate::track::Span;
+use crate::track::{Span, WORDS, span_of};
 
 // What decides the markers that are made from tracks.
 #[derive(Clone, Copy)]
@@ -32,19 +32,18 @@ impl Order {
     fn add(self, s: Span) -> Order
         ensures { result ≡ order_with self s }
     {
-        if !s.has_frames() {
-            return Order {
-                left: self.left,
+        if s.has_frames() {
+            Order {
+                left: true,
+                ordered: self.ordered & (self.end <= s.start),
+                end: s.end,
+                ..self
+            }
+        } else {
+            Order {
                 whole: false,
-                ordered: self.ordered,
-                end: self.end,
-            };
-        }
-        Order {
-            left: true,
-            whole: self.whole,
-            ordered: self.ordered & (self.end <= s.start),
-            end: s.end,
+                ..self
+            }
         }
     }
 }
@@ -62,13 +61,8 @@ pub fn clipped_order(tracks: &[u32], first: u32, end: u32) -> Order
         ordered: true,
         end: 0,
     };
-    let n = tracks.len() / crate::track::WORDS;
-    let mut i = 0;
-    while i < n {
-        let s = crate::track::span_at(tracks, i);
-        let s = s.clip(first, end);
-        o = o.add(s);
-        i += 1;
+    for row in tracks.chunks_exact(WORDS) {
+        o = o.add(span_of(row).clip(first, end));
     }
     o
 }
@@ -92,8 +86,10 @@ pub fn has_program(tracks: &[u32], p: ProgramOptions) -> bool
     ensures { result ≡ has_program p (spans tracks.now) }
 {
     let left = clipped_order(tracks, p.first, p.end);
-    if is_play_range(p) {
-        return left.left & left.ordered & exact(tracks);
-    }
-    left.left & left.ordered & p.clipped_program
+    let allowed = if is_play_range(p) {
+        exact(tracks)
+    } else {
+        p.clipped_program
+    };
+    left.left & (left.ordered & allowed)
 }

@@ -20,42 +20,14 @@ pub(crate) fn span_of(row: &[u32]) -> Span
     requires { length row.now ≡ 4 }
     ensures { result ≡ span_of row.now }
 {
-    let title = Extent {
-        start: row[2],
-        length: row[3],
-    };
-    let start = row[0];
-    let duration = row[1];
-    if duration <= u32::MAX - start {
-        return Span {
-            start: start,
-            end: start + duration,
-            title: title,
-        };
-    }
     Span {
-        start: start,
-        end: u32::MAX,
-        title: title,
+        start: row[0],
+        end: row[0].saturating_add(row[1]),
+        title: Extent {
+            start: row[2],
+            length: row[3],
+        },
     }
-}
-
-fn max(a: u32, b: u32) -> u32
-    ensures { result ≡ max a b }
-{
-    if a <= b {
-        return b;
-    }
-    a
-}
-
-fn min(a: u32, b: u32) -> u32
-    ensures { result ≡ min a b }
-{
-    if a <= b {
-        return a;
-    }
-    b
 }
 
 impl Span {
@@ -63,11 +35,10 @@ impl Span {
     pub fn clip(self, first: u32, end: u32) -> Span
         ensures { result ≡ clip first end self }
     {
-        let title = self.title;
         Span {
-            start: max(first, self.start),
-            end: min(end, self.end),
-            title: title,
+            start: first.max(self.start),
+            end: end.min(self.end),
+            title: self.title,
         }
     }
 
@@ -84,8 +55,7 @@ pub(crate) fn span_at(tracks: &[u32], i: usize) -> Span
     ensures { result ≡ span_at tracks.now i }
 {
     let at = i * WORDS;
-    let to = at + WORDS;
-    span_of(&tracks[at..to])
+    span_of(&tracks[at..at + WORDS])
 }
 
 // The span of track i, counted from 0; an empty one if there is no such track.
@@ -93,14 +63,15 @@ pub fn track_span(tracks: &[u32], i: usize) -> Span
     ensures { result ≡ track_span tracks.now i }
 {
     if i < tracks.len() / WORDS {
-        return span_at(tracks, i);
-    }
-    Span {
-        start: 0,
-        end: 0,
-        title: Extent {
+        span_at(tracks, i)
+    } else {
+        Span {
             start: 0,
-            length: 0,
-        },
+            end: 0,
+            title: Extent {
+                start: 0,
+                length: 0,
+            },
+        }
     }
 }

@@ -1,4 +1,4 @@
--- `from_toc::exact` meets its contract: the largest range changes no span. Assumes nothing.
+-- `order::exact` meets its contract: the largest range changes no span. Assumes nothing.
 use Rattle.tracks.proofs.OrderLaws.{exact-known}
 use Rattle.tracks.proofs.order.exact.Goals as goal
 

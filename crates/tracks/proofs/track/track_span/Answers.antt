@@ -7,6 +7,6 @@ pub returns-then-i-tracks : goal.returns-then-i-tracks
 unfolding track_span
 returns-then-i-tracks c = rw (lt-ltb _ _ c.if-i-tracks.true) c.span_at.ensures
 
-pub returns : goal.returns
+pub returns-else-i-tracks : goal.returns-else-i-tracks
 unfolding track_span
-returns c = rw (le-ltb _ _ c.if-i-tracks.false)
+returns-else-i-tracks c = rw (le-ltb _ _ c.if-i-tracks.false)
