@@ -144,18 +144,10 @@ pub fn diin(
     if !is_written(info, measured.at) {
         return c;
     }
-    // The slices one by one: of a closure that captures a struct of references it is not known what it appends.
-    let Given {
-        pools: Pools { text, bytes },
-        tracks,
-        markers,
-    } = *given;
-    c.chunk_of(out, *b"DIIN", |c, out| {
-        let given = Given {
-            pools: Pools { text, bytes },
-            tracks,
-            markers,
-        };
-        diin_data(c, out, &given, order, info)
-    })
+    // Not by `chunk_of`: of a closure that captures a struct of references it is not known what it appends (the goal `returns`
+    // stays open), and its four slices one by one are no plainer.
+    let size_at = c.name(out, *b"DIIN");
+    let from = size_at.data_start(out.len());
+    let end = diin_data(Cursor::new(), &mut out[from..], given, order, info);
+    size_at.close(out, end)
 }

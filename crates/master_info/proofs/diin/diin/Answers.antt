@@ -6,8 +6,10 @@ use native.Mathlib.Omega.{arith}
 use borrow.Author.Rules.{rules}
 use lib.Dec.{eqb}
 use lib.ListN.{length}
+use Rattle.chunk_names.specs.Name.{ascii}
 use Rattle.chunk.specs.Append.{moved}
 use Rattle.chunk.proofs.AppendLaws.{none}
+use Rattle.chunk.proofs.SizeLastLaws.{chunk-size-last}
 use Rattle.tree.specs.Tree.{bytes}
 use Rattle.tree.proofs.TreeLaws.{bytes-stop, bytes-node}
 use Rattle.master_info.specs.Diin.{info_chunks, has_diin, diin}
@@ -33,4 +35,6 @@ returns c =
     let test = sym c.is_written.ensures ∙ c.if-not-is_written.false in
     let on = rw (is, told-by-size c.args.info.on c.args.info.empty_info (length inside)) at test in
     let below = size_below c.args.info.on (c.args.info.empty_info || not (eqb (length inside) 0)) (length inside) (2 ^ 64 - 1) on in
-    rw (on, bytes-node) (c.chunk_of.ensures _ (omega (arith, below)) (search rules))
+    rw (on, bytes-node)
+    (chunk-size-last (ascii "DIIN") (omega (arith, below))
+    c.name-size_at.ensures c.data_start-from.ensures c.new-2.ensures c.diin_data-end.ensures c.close.ensures)
