@@ -35,8 +35,10 @@ pub fn measure(inputs: &Inputs<'_>) -> Lengths
 {
     orders(inputs);
     let start = Cursor::new();
+    let front = front_sized(start, &mut [], inputs, 0, 0);
+    let back = back(start, &mut [], inputs, 0);
     Lengths {
-        front: front_sized(start, &mut [], inputs, 0, 0).at,
-        back: back(start, &mut [], inputs, 0).at,
+        front: front.at,
+        back: back.at,
     }
 }
