@@ -3,7 +3,6 @@ use mathlib.Core.Path.{◌≡◌, refl}
 use mathlib.Core.Bool.{Bool, true, false}
 use mathlib.Core.List.{List}
 use Prim.Native.Nat.{ℕ}
-use native.Mathlib.Omega.{arith}
 use Rattle.window.specs.declared.window.Window.{Window}
 use Rattle.window.specs.Window.{Wrote}
 use Rattle.std.specs.Prelude.{Option, Some, None}
@@ -20,9 +19,9 @@ pub record Put (lent : Bool) (bytes : List ℕ) (w : Window) (out last : List �
   pub wrote : Wrote bytes w out last v
 
 pub untouched : (lent : Bool) {bytes : List ℕ} {w : Window} {out last : List ℕ} {r : Option Window} → Filling lent bytes w out last r → r ≡ None → Untouched lent out last
-untouched true q e = let z : ◌≡◌ {A = ℕ} 0 1 = cc (e, q.answer) in absurd (omega arith)
+untouched true q e = absurd (cc (e, q.answer))
 untouched false q e = record { wrong = refl; same = q.buffer }
 
 pub put : (lent : Bool) {bytes : List ℕ} {w v : Window} {out last : List ℕ} {r : Option Window} → Filling lent bytes w out last r → r ≡ Some v → Put lent bytes w out last v
 put true q e = record { right = refl; wrote = record { filled = q.buffer; place = cc (e, q.answer) } }
-put false q e = let z : ◌≡◌ {A = ℕ} 0 1 = cc (e, q.answer) in absurd (omega arith)
+put false q e = absurd (cc (e, q.answer))
