@@ -5,6 +5,7 @@ ghost use Rattle.tree.specs.Tree.{bytes};
 ghost use Rattle.caller_chunks.specs.Caller.{caller_chunk, caller_chunks};
 
 use chunk::Cursor;
+use faults::caller::name_of;
 use texts::extent::Extent;
 
 // Words a row.
@@ -15,14 +16,12 @@ fn caller_chunk(c: Cursor, out: &mut [u8], raw: &[u8], row: &[u32]) -> Cursor
     requires { length row.now ≡ 3 }
     ensures { Appended out.old c.at (bytes (caller_chunk raw.now row.now)) out.new result.at }
 {
-    let name = faults::caller::name_of(row[0]);
+    let name = name_of(row[0]);
     let data = Extent {
         start: row[1],
         length: row[2],
     };
-    let first = data.first(raw.len());
-    let end = data.end(raw.len());
-    c.chunk(out, name, &raw[first..end])
+    c.chunk(out, name, &raw[data.first(raw.len())..data.end(raw.len())])
 }
 
 // The chunks of all whole rows.
@@ -30,13 +29,8 @@ pub fn caller_chunks(c: Cursor, out: &mut [u8], raw: &[u8], callers: &[u32]) -> 
     ensures { Appended out.old c.at (bytes (caller_chunks raw.now callers.now)) out.new result.at }
 {
     let mut c = c;
-    let n = callers.len() / WORDS;
-    let mut i = 0;
-    while i < n {
-        let at = i * WORDS;
-        let to = at + WORDS;
-        c = caller_chunk(c, out, raw, &callers[at..to]);
-        i += 1;
+    for row in callers.chunks_exact(WORDS) {
+        c = caller_chunk(c, out, raw, row);
     }
     c
 }

@@ -4,10 +4,9 @@ ghost use Rattle.comt.specs.Comment.{comment_of};
 ghost use Rattle.rows.specs.Row.{row_at};
 ghost use Rattle.comment_faults.specs.Comments.{date_wrong, most_reference, reference_wrong, is_written_comment, fault_of, comment_faults};
 
-use comt::comt::Comment;
+use comt::comt::{Comment, WORDS, comment_of};
 use refusal::verdict::{Refusal, Verdict, refuse_if};
-use rows::row::{Row, word};
-use texts::extent::Extent;
+use rows::row::Row;
 use texts::text::{TextOptions, text_count};
 
 // What the count of COMT can tell.
@@ -18,19 +17,7 @@ fn comment_at(rows: &[u32], k: usize) -> Comment
     requires { k < length rows.now / 9 }
     ensures { result ≡ comment_of (row_at 9 rows.now k) }
 {
-    Comment {
-        year: word(rows, 9, k, 0),
-        month: word(rows, 9, k, 1),
-        day: word(rows, 9, k, 2),
-        hour: word(rows, 9, k, 3),
-        minutes: word(rows, 9, k, 4),
-        kind: word(rows, 9, k, 5),
-        reference: word(rows, 9, k, 6),
-        text: Extent {
-            start: word(rows, 9, k, 7),
-            length: word(rows, 9, k, 8),
-        },
-    }
+    comment_of(&rows[k * WORDS..k * WORDS + WORDS])
 }
 
 // Whether the time stamp is out of range.

@@ -9,7 +9,7 @@ use native.Mathlib.Decide.{dec_le}
 use native.Mathlib.Omega.{arith}
 use borrow.Author.Tests.{lt-leb}
 use lib.ListN.{length, take, drop, get_or, length-take, length-drop, length-append}
-use lib.Seq.{take_all, drop-drop, get_or-take, get_or-drop}
+use lib.Seq.{take-append_seam, drop-append_seam, take_all, drop-drop, get_or-take, get_or-drop}
 use Rattle.chunk.specs.Number.{be}
 use Rattle.chunk_names.specs.Name.{ascii}
 use Rattle.chunk.specs.Chunk.{chunk}
@@ -48,7 +48,7 @@ row-whole words i h = simp (length-take, length-drop) (omega arith)
 
 module _ (pool : List ℕ) (o : TextOptions) where
   -- what a row gives
-  abbrev of_row : List ℕ → List Written
+  abbrev pub of_row : List ℕ → List Written
   of_row row = written_comment pool o (comment_of row)
 
   -- the comments written of the first i rows
@@ -66,6 +66,19 @@ module _ (pool : List ℕ) (o : TextOptions) where
   pub comments_all : (words : List ℕ) (i : ℕ) → length words / 9 ≤ i → first_comments words i ≡ written_comments pool words o
   unfolding written_comments
   comments_all words i h = rw (take_all i (rows 9 words) (omega (arith, length-rows 9 words)))
+
+  -- the first row, and the others; words that make no row
+  pub comments_front : (row rest : List ℕ) → length row ≡ 9 → written_comments pool (row ++ rest) o ≡ of_row row ++ written_comments pool rest o
+  unfolding written_comments rows first_rows flat_map
+  comments_front row rest nine =
+      let n : length (row ++ rest) / 9 ≡ suc (length rest / 9) = rw length-append (omega arith) in
+      let front : take 9 (row ++ rest) ≡ row = rw (sym nine) (take-append_seam row rest) in
+      let back : drop 9 (row ++ rest) ≡ rest = rw (sym nine) (drop-append_seam row rest) in
+      rw (n, front, back)
+
+  pub comments_none : (rest : List ℕ) → length rest < 9 → written_comments pool rest o ≡ []
+  unfolding written_comments rows first_rows flat_map
+  comments_none rest few = let n : length rest / 9 ≡ 0 = omega arith in rw n
 
   -- a row gives at most one comment
   one : (row : List ℕ) → length (of_row row) ≤ 1

@@ -10,10 +10,10 @@ ghost use Rattle.comt.specs.Comment.{comment_of, reference_of, comment_head, wri
 
 use chunk::Cursor;
 use texts::extent::Extent;
-use texts::text::{TextOptions, TextRule};
+use texts::text::{TextOptions, TextRule, counted_text, text_count};
 
 // The words of a comment's row: year, month, day, hour, minutes, kind, reference, text start, text length.
-const WORDS: usize = 9;
+pub const WORDS: usize = 9;
 
 // What the count of COMT can tell (refusal 36).
 const MOST_COMMENTS: usize = 65_535;
@@ -31,7 +31,7 @@ pub struct Comment {
 }
 
 // The comment of a row.
-fn comment_of(row: &[u32]) -> Comment
+pub fn comment_of(row: &[u32]) -> Comment
     requires { length row.now ≡ 9 }
     ensures { result ≡ comment_of row.now }
 {
@@ -54,10 +54,7 @@ fn comment_of(row: &[u32]) -> Comment
 fn reference(c: Comment) -> u32
     ensures { result ≡ reference_of c }
 {
-    if c.kind == 0 {
-        return 0;
-    }
-    c.reference
+    if c.kind == 0 { 0 } else { c.reference }
 }
 
 // A comment's 10 bytes before its text. Of a number that passes its field, the low bytes.
@@ -119,15 +116,9 @@ fn comt_data(
 fn comments_count(pool: &[u32], rows: &[u32], options: TextOptions) -> usize
     ensures { result ≡ length (written_comments pool.now rows.now options) }
 {
-    let n = rows.len() / WORDS;
     let mut count = 0;
-    let mut i = 0;
-    while i < n {
-        let at = i * WORDS;
-        let end = at + WORDS;
-        let c = comment_of(&rows[at..end]);
-        count += one_if_written(pool, c, options);
-        i += 1;
+    for row in rows.chunks_exact(WORDS) {
+        count += one_if_written(pool, comment_of(row), options);
     }
     count
 }
@@ -136,13 +127,7 @@ fn comments_count(pool: &[u32], rows: &[u32], options: TextOptions) -> usize
 fn one_if_written(pool: &[u32], c: Comment, options: TextOptions) -> usize
     ensures { result ≡ length (written_comment pool.now options c) }
 {
-    let rule = options.rule;
-    let text = c.text;
-    let count = texts::text::text_count(rule, pool, text);
-    if options.writes(count) {
-        return 1;
-    }
-    0
+    usize::from(options.writes(text_count(options.rule, pool, c.text)))
 }
 
 // The comments that are written, of all whole rows.
@@ -155,17 +140,11 @@ fn written_comments(
 ) -> Cursor
     ensures { Appended out.old c.at (flat_map comment_bytes (written_comments pool.now rows.now options)) out.new result.at }
 {
-    let n = rows.len() / WORDS;
-    let mut p = c;
-    let mut i = 0;
-    while i < n {
-        let at = i * WORDS;
-        let end = at + WORDS;
-        let c = comment_of(&rows[at..end]);
-        p = written_comment(p, out, pool, c, options);
-        i += 1;
+    let mut c = c;
+    for row in rows.chunks_exact(WORDS) {
+        c = written_comment(c, out, pool, comment_of(row), options);
     }
-    p
+    c
 }
 
 // A comment, if it is written.
@@ -178,13 +157,12 @@ fn written_comment(
 ) -> Cursor
     ensures { Appended out.old p.at (flat_map comment_bytes (written_comment pool.now options c)) out.new result.at }
 {
-    let rule = options.rule;
-    let text = c.text;
-    let count = texts::text::text_count(rule, pool, text);
-    if !options.writes(count) {
-        return p;
+    let count = text_count(options.rule, pool, c.text);
+    if options.writes(count) {
+        comment_bytes(p, out, count, pool, c, options.rule)
+    } else {
+        p
     }
-    comment_bytes(p, out, count, pool, c, rule)
 }
 
 // A comment with its text and the pad after an odd one.
@@ -198,9 +176,7 @@ fn comment_bytes(
 ) -> Cursor
     ensures { Appended out.old p.at (comment_head c ++ (be 4 count ++ text_bytes rule (part pool.now c.text)) ++ pad count) out.new result.at }
 {
-    let text = c.text;
-    let head = comment_head(c);
-    let p = p.bytes(out, &head);
-    let p = texts::text::counted_text(p, out, count, rule, pool, text);
+    let p = p.bytes(out, &comment_head(c));
+    let p = counted_text(p, out, count, rule, pool, c.text);
     p.pad(out, count as u64)
 }

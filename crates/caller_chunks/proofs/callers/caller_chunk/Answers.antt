@@ -12,5 +12,5 @@ use Rattle.caller_chunks.proofs.callers.caller_chunk.Goals as goal
 pub returns : goal.returns
 unfolding caller_chunk
 returns c = let e : Extent = record { start = get_or c.args.row.now 1 0; length = get_or c.args.row.now 2 0 } in
-    let whole : take (c.end-end.result - c.first-first.result) (drop c.first-first.result c.args.raw.now) ≡ part c.args.raw.now e = rw (c.first-first.ensures, c.end-end.ensures) (part_places c.args.raw.now e) in
+    let whole : take (c.end.result - c.first.result) (drop c.first.result c.args.raw.now) ≡ part c.args.raw.now e = rw (c.first.ensures, c.end.ensures) (part_places c.args.raw.now e) in
     rw (bytes-leaf, ← whole, ← c.name_of-name.ensures) c.chunk.ensures

@@ -1,12 +1,15 @@
--- `comt::comments_count` meets its contract. The loop's invariant: the comments of the first i rows are counted. Assumes nothing.
+-- `comt::comments_count` meets its contract. The loop's invariant: the comments of the rows so far are counted, and the other rows are still to come. Assumes nothing.
 use mathlib.Core.Path.{◌≡◌}
-use Prim.Native.Nat.{◌≤◌, ◌-◌}
+use mathlib.Core.List.{flat_map, ◌++◌}
 use lib.ListN.{length}
-use Rattle.comt.proofs.CommentLaws.{first_comments}
+use Rattle.std.specs.Slice.Iter.{chunks_exact_rest, chunks_exact_size}
+use Rattle.comt.specs.Comment.{written_comments}
+use Rattle.comt.proofs.CommentLaws.{of_row}
 use Rattle.comt.proofs.comt.comments_count.Given as goal
 
-abbrev pub invariant-loop-i : goal.invariant-loop-i
-invariant-loop-i l = (l.i ≤ l.n) × (l.count ≡ length (first_comments l.pool l.options l.rows l.i))
-
-abbrev pub decreases-loop-i : goal.decreases-loop-i
-decreases-loop-i l = l.n - l.i
+abbrev pub invariant-loop-row : goal.invariant-loop-row
+invariant-loop-row l = let cs = flat_map (λ row. of_row l.pool l.options row.now) l.yielded in record {
+  size : chunks_exact_size l.row-iterator ≡ 9;
+  rest : written_comments l.pool l.rows l.options ≡ cs ++ written_comments l.pool (chunks_exact_rest l.row-iterator) l.options;
+  counted : l.count ≡ length cs;
+}

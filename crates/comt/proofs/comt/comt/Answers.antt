@@ -27,7 +27,7 @@ pub returns : goal.returns
 unfolding comt has_comt comt_data
 returns c = let cs = written_comments c.args.pool.now c.args.rows.now c.args.options in
     let has : has_comt cs ≡ true = rw (← c.comments_count-count.ensures) c.if-not-count.false in
-    let fits = words_fit c.args.pool.now c.args.options c.args.rows.now (λ k. omega (arith, c.shared_slice_known-2-1.given k)) in
+    let fits = words_fit c.args.pool.now c.args.options c.args.rows.now (λ k. omega (arith, c.type_inv.rows k)) in
     rw has
     (chunk-size-last (ascii "COMT") (omega (arith, comt_data-short _ cs fits has (length cs)))
     c.name-size_at.ensures c.data_start-from.ensures c.new.ensures

@@ -7,6 +7,6 @@ pub returns-then-c-eq0 : goal.returns-then-c-eq0
 unfolding reference_of
 returns-then-c-eq0 c = rw (eq-eqb _ 0 c.if-c-eq0.true)
 
-pub returns : goal.returns
+pub returns-else-c-eq0 : goal.returns-else-c-eq0
 unfolding reference_of
-returns c = rw (ne_eqb _ 0 c.if-c-eq0.false)
+returns-else-c-eq0 c = rw (ne_eqb _ 0 c.if-c-eq0.false)

@@ -10,10 +10,10 @@ use mathlib.Core.Path.{ap}
 use mathlib.Core.Bool.{not}
 use Rattle.comt.proofs.comt.written_comment.Goals as goal
 
-pub returns-then-not-writes : goal.returns-then-not-writes
+pub returns-else-writes : goal.returns-else-writes
 unfolding written_comment as_written flat_map
-returns-then-not-writes c = rw (left_out c.args.options c.text_count-count.ensures c.writes.ensures (ap not c.if-not-writes.true)) (none (search rules) (search rules))
+returns-else-writes c = rw (left_out c.args.options c.text_count-count.ensures c.writes.ensures (ap not c.if-writes.false)) (none (search rules) (search rules))
 
-pub returns : goal.returns
+pub returns-then-writes : goal.returns-then-writes
 unfolding written_comment as_written comment_bytes counts
-returns c = rw (written c.args.options c.text_count-count.ensures c.writes.ensures (ap not c.if-not-writes.false)) (rw (flat_map-one) (rw c.text_count-count.ensures at c.comment_bytes.ensures))
+returns-then-writes c = rw (written c.args.options c.text_count-count.ensures c.writes.ensures (ap not c.if-writes.true)) (rw (flat_map-one) (rw c.text_count-count.ensures at c.comment_bytes.ensures))
