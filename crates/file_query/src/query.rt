@@ -14,13 +14,19 @@ fn sound_positions(format: SoundFormat, lengths: &[u32], from: u64, count: u64) 
     ensures { result ≡ positions_for (unit_sizes format lengths.now) from count }
 {
     match format.sound {
-        Sound::Dsd => dsd_reads::dsd_data::positions(format.channels, format.positions, from, count),
+        Sound::Dsd => dsd_reads::dsd_data::positions(
+            format.channels,
+            format.positions,
+            from,
+            count,
+        ),
         Sound::Dst => dst_reads::dst_data::positions(format.crc, lengths, from, count),
     }
 }
 
 // The positions that a read of so many bytes from the file's byte `offset` on needs: the first and one past the last, 0 and 0 for none. Header and
 // trailer have so many bytes.
+#[tactic(auto, unfolding(crate::specs::Query::query_of, read_rules::specs::Needed::needed))]
 pub fn query(
     format: SoundFormat,
     lengths: &[u32],

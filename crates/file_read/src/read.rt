@@ -29,8 +29,7 @@ pub struct Request<'a> {
 
 // Fills the rest of `out` with the sound, after what w skips of it.
 fn fill(request: &Request<'_>, out: &mut [u8], w: Window) -> Option<Window>
-    ensures {
-        let q = asked request.now in
+    ensures { let q = asked request.now in
         Filling
         (is_lent_for q.format q.lengths (needed_at (unit_sizes q.format q.lengths) w out.old) q.lent q.frames q.contents)
         (sound_with q.format q.lengths (needed_at (unit_sizes q.format q.lengths) w out.old) q.frames q.contents)
@@ -38,10 +37,8 @@ fn fill(request: &Request<'_>, out: &mut [u8], w: Window) -> Option<Window>
 {
     let format = request.format;
     match format.sound {
+        Sound::Dsd if !request.lent.is_empty() || !request.frames.is_empty() => None,
         Sound::Dsd => {
-            if request.lent.len() != 0 || request.frames.len() != 0 {
-                return None;
-            }
             dsd_reads::dsd_data::fill(out, w, format.channels, format.positions, request.contents)
         }
         Sound::Dst => dst_reads::dst_data::fill(
@@ -59,8 +56,7 @@ fn fill(request: &Request<'_>, out: &mut [u8], w: Window) -> Option<Window>
 
 // Header, sound and trailer into their parts of `out`, or 43.
 fn pieces(request: &Request<'_>, out: &mut [u8]) -> ReadAnswer
-    ensures {
-        let q = asked request.now in
+    ensures { let q = asked request.now in
         Reading (lent_fault q (length out.old)) q out.old out.new result }
 {
     let begin = Window {
@@ -68,9 +64,7 @@ fn pieces(request: &Request<'_>, out: &mut [u8]) -> ReadAnswer
         skip: request.offset,
     };
     let behind = begin.past(request.header.len() as u64, out.len());
-    let Some(w) = fill(request, out, behind) else {
-        return Err(Refusal::NotLent);
-    };
+    let w = fill(request, out, behind).ok_or(Refusal::NotLent)?;
     let end = w.put(out, request.trailer);
     begin.put(out, request.header);
     Ok(end.at as u64)

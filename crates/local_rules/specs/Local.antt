@@ -38,12 +38,15 @@ module _ (pool raw tracks markers comments : List ℕ) (order : List InfoChunk) 
       || ((lacks ranks (local_rank EditedMasterInfo) && has_diin pool raw tracks markers info order)
       || (lacks ranks (local_rank Comments) && has_comt (written_comments pool comments info.text)))))
 
-  -- 37 to 39
-  unfoldable pub local_faults : List LocalChunk → ℕ → Verdict
-  local_faults local count =
-      let ranks = take (min count 5) (map local_rank local) in
+  -- 37 to 39 of the names that count, where so many are told
+  unfoldable pub order_faults : List ℕ → ℕ → Verdict
+  order_faults ranks count =
       first_of
       (refuse_if (ltb 5 count || repeats ranks) refused.LocalOrderRepeats
       ∷ refuse_if (lacks_any ranks) refused.LocalOrderLacks
       ∷ refuse_if (sound_before_prop ranks) refused.SoundBeforeProperty
       ∷ [])
+
+  -- 37 to 39
+  abbrev pub local_faults : List LocalChunk → ℕ → Verdict
+  local_faults local count = order_faults (take (min count 5) (map local_rank local)) count

@@ -13,7 +13,6 @@ use Rattle.window.proofs.TestLaws.{lt-or-le}
 use Rattle.tree.specs.Gather.{window}
 use Rattle.refusal.specs.Verdict.{Verdict}
 use Rattle.std.specs.Prelude.{Ok, Err}
-use Rattle.read_answer.specs.declared.answer.ReadAnswer.TheVariants as answer
 use Rattle.file_read.specs.Read.{Request, file_with, Reading, Reads, read_verdict}
 
 -- of bytes that are stored over the front of a buffer, those that fit are its front
@@ -56,9 +55,9 @@ pub record Filled (q : Request) (out last : List ℕ) (count : ℕ) : Type 0 whe
   pub many : count ≡ min (length out) (length (file_with q (length out)) - q.offset)
   pub buffer : last ≡ shown (file_with q (length out)) (record { at = 0; skip = q.offset }) out
 
-pub filled : (q : Request) {out last : List ℕ} {count : ℕ} → Reads q out last (answer.Filled count) → Filled q out last count
+pub filled : (q : Request) {out last : List ℕ} {count : ℕ} → Reads q out last (Ok count) → Filled q out last count
 filled q {out} {last} {count} p = by (read_verdict q (length out)) p
   where
-    by : (v : Verdict) → Reading v q out last (answer.Filled count) → Filled q out last count
+    by : (v : Verdict) → Reading v q out last (Ok count) → Filled q out last count
     by (Ok tt) r = record { many = cc r.answer; buffer = r.buffer }
-    by (Refused n d) r = let z : ◌≡◌ {A = ℕ} 0 1 = cc r.answer in absurd (omega arith)
+    by (Err e) r = absurd (cc r.answer)

@@ -21,7 +21,6 @@ use Rattle.refusal.specs.Verdict.{Verdict}
 use Rattle.std.specs.Prelude.{Ok, Err}
 use Rattle.refusal.proofs.VerdictLaws.{none_so, inside}
 use Rattle.rows.specs.Lengths.{length_wrong, lengths_wrong}
-use Rattle.build_answer.specs.declared.answer.Answer.TheVariants.{Built}
 use Rattle.assemble.specs.Build.{build_verdict, Outcome, Builds}
 use Rattle.build_options.specs.Inputs.{Inputs}
 use Rattle.checks.specs.InputVerdict.{verdict}
@@ -49,12 +48,12 @@ length_at (f ∷ fs) zero unused h = refl
 length_at (f ∷ fs) (suc i) unused h = length_at fs i unused (le_of_suc-le-suc h)
 
 -- the header's length that a build answers
-header-length : (x : Inputs) (h t : List ℕ) {h' t' : List ℕ} {a c d : ℕ} → Builds x h h' t t' (Built a c d) → a ≡ length (header_of x)
+header-length : (x : Inputs) (h t : List ℕ) {h' t' : List ℕ} {a c d : ℕ} → Builds x h h' t t' (Ok (record { header = a; sound = c; trailer = d })) → a ≡ length (header_of x)
 header-length x h t {h'} {t'} {a} {c} {d} outcome = by (build_verdict x h t) outcome
   where
-    by : (v : Verdict) → Outcome x v h h' t t' (Built a c d) → a ≡ length (header_of x)
+    by : (v : Verdict) → Outcome x v h h' t t' (Ok (record { header = a; sound = c; trailer = d })) → a ≡ length (header_of x)
     by (Ok tt) o = let e = o.answers in cc
-    by (Refused n m) o = let e = o.answers in let z : ◌≡◌ {A = ℕ} 0 1 = cc in absurd (omega arith)
+    by (Err r) o = let e = o.answers in absurd (cc e)
 
 module _ (b : AcceptedBuild) (fs : List Frame) (recorded : Recorded b.inputs fs) (dst : b.inputs.area.sound ≡ Dst) where
   abbrev x : Inputs

@@ -1,7 +1,7 @@
 -- THE PREMISES of demand 3: a build that was accepted, calls of `read`, and what the accepted ones were given (00: "each accepted read is given the build's kind, CRC switch,
 -- channels and lengths (DSD: its number of positions), and lent the built header and trailer and, of the same frames of the given lengths, those it needs").
 -- Assumes nothing.
-use Rattle.std.specs.Prelude.{◌≡◌, Bool, List, [], ◌∷◌, map, ℕ, length, take}
+use Rattle.std.specs.Prelude.{◌≡◌, Bool, List, [], ◌∷◌, map, ℕ, length, take, Ok, Err}
 use Rattle.tree.specs.Gather.{Read, refused, accepted}
 use Rattle.dst.specs.Frame.{Frame, dsd_sound}
 use Rattle.prop_fields.specs.declared.compression.Sound.{Sound}
@@ -11,10 +11,8 @@ use Rattle.sound_reads.specs.Lent.{codes, contents, Plain}
 use Rattle.build_options.specs.Area.{area_positions}
 use Rattle.build_options.specs.Inputs.{Inputs}
 use Rattle.file_tree.specs.Sound.{Fits}
-use Rattle.build_answer.specs.declared.answer.Answer.TheVariants.{Built}
 use Rattle.assemble.specs.Build.{Builds}
 use Rattle.read_answer.specs.Answer.{ReadAnswer}
-use Rattle.read_answer.specs.declared.answer.ReadAnswer.TheVariants as answer
 use Rattle.file_read.specs.Read.{Request, needed_for, Reads}
 
 -- an accepted build: what it was given, what its two buffers held before and after, and the lengths that it answered, with all that a build promises
@@ -27,7 +25,8 @@ pub record AcceptedBuild : Type 0 where
   pub header_length : ℕ
   pub sound_length : ℕ
   pub trailer_length : ℕ
-  pub promise : Builds inputs header_before header_buffer trailer_before trailer_buffer (Built header_length sound_length trailer_length)
+  pub promise : Builds inputs header_before header_buffer trailer_before trailer_buffer
+      (Ok (record { header = header_length; sound = sound_length; trailer = trailer_length }))
 
 -- a call of `read`: what it was given, what its buffer held before and after, and its answer, with all that a read promises
 pub record Call : Type 0 where
@@ -65,8 +64,8 @@ pub record WasGiven (b : AcceptedBuild) (fs : List Frame) (q : Request) (room : 
 
 -- if it was accepted; of a refused read nothing is assumed
 abbrev pub IfAccepted : AcceptedBuild → List Frame → Request → ℕ → ReadAnswer → Type 0
-IfAccepted b fs q room (answer.Filled count) = WasGiven b fs q room
-IfAccepted b fs q room (answer.Refused number detail) = Unit {0}
+IfAccepted b fs q room (Ok count) = WasGiven b fs q room
+IfAccepted b fs q room (Err r) = Unit {0}
 
 -- each of a list of calls
 abbrev pub AllGiven : AcceptedBuild → List Frame → List Call → Type 0
@@ -75,8 +74,8 @@ AllGiven b fs (c ∷ cs) = IfAccepted b fs c.request (length c.out) c.answer × 
 
 -- what a call adds to what is gathered: the bytes that it filled, at its offset; nothing, if it was refused
 abbrev pub read_by : ℕ → List ℕ → List ℕ → ReadAnswer → Read
-read_by offset out last (answer.Filled count) = accepted offset (length out) (take count last)
-read_by offset out last (answer.Refused number detail) = refused
+read_by offset out last (Ok count) = accepted offset (length out) (take count last)
+read_by offset out last (Err r) = refused
 
 abbrev pub read_of : Call → Read
 read_of c = read_by c.request.offset c.out c.last c.answer

@@ -41,14 +41,18 @@ impl SoundFormat {
     }
 
     // 42, where header and trailer have so many bytes.
+    #[tactic(auto, unfolding(crate::specs::Fault::format_fault))]
     pub fn fault(self, lengths: &[u32], header: u64, trailer: u64) -> Verdict
         ensures { result ≡ format_fault self lengths.now header trailer }
     {
-        let wrong = ((self.channels < 1) | (6 < self.channels))
-            | self.lengths_wrong(lengths)
-            | (MOST_POSITIONS < self.position_count(lengths))
-            | (LONGEST_SIDE < header)
-            | (LONGEST_SIDE < trailer);
-        refuse_if(wrong, Refusal::Format)
+        refuse_if(
+            self.channels < 1
+                || 6 < self.channels
+                || self.lengths_wrong(lengths)
+                || MOST_POSITIONS < self.position_count(lengths)
+                || LONGEST_SIDE < header
+                || LONGEST_SIDE < trailer,
+            Refusal::Format,
+        )
     }
 }

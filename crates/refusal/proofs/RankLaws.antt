@@ -91,7 +91,10 @@ pub info-once : (order : List InfoChunk)
     → list_all (λ name. eqb (count_by (λ part. sameb info_type part name) order) 1) info_order ≡ each_once (map info_rank order) 4
 info-once order = once-ranks (sameb info_type) info_rank (λ x y. ap₂ eqb (info_tag x) (info_tag y)) order info_order 4 refl
 
+pub local-same : (x y : LocalChunk) → sameb local_type x y ≡ eqb (local_rank x) (local_rank y)
+local-same x y = ap₂ eqb (local_tag x) (local_tag y)
+
 -- how often a name is in the local order
 pub local-times : (order : List LocalChunk) (name : LocalChunk)
     → count_by (λ part. sameb local_type part name) order ≡ times (map local_rank order) (local_rank name)
-local-times = times-ranks (sameb local_type) local_rank (λ x y. ap₂ eqb (local_tag x) (local_tag y))
+local-times = times-ranks (sameb local_type) local_rank local-same

@@ -1,5 +1,6 @@
 // What DIIN tells (30 to 33), checked if there is one.
-ghost use Rattle.std.specs.Prelude.{◌≡◌};
+ghost use Rattle.std.specs.Prelude.{◌≡◌, map};
+ghost use Rattle.refusal.specs.Orders.{info_rank, each_once};
 ghost use Rattle.rules.specs.Info.{id_wrong, info_faults};
 
 use build_options::area::Area;
@@ -21,6 +22,14 @@ fn id_wrong(raw: &[u8], id: Option<Extent>) -> bool
     }
 }
 
+// Whether each chunk of DIIN is named once.
+fn has_each_once(order: [InfoChunk; 4]) -> bool
+    ensures { result ≡ each_once (map info_rank order) 4 }
+{
+    let names = InfoChunk::table_order();
+    each_once(&order, &names)
+}
+
 // 30 to 33
 #[tactic(auto, using(refusal::proofs::VerdictLaws::in_turn), unfolding(crate::specs::Info::info_faults))]
 pub fn info_faults(
@@ -35,8 +44,7 @@ pub fn info_faults(
     if !info.on {
         return Ok(());
     }
-    let names = InfoChunk::table_order();
-    refuse_if(!each_once(&order, &names), Refusal::InfoOrder)?;
+    refuse_if(!has_each_once(order), Refusal::InfoOrder)?;
     refuse_if(id_wrong(raw, info.emid), Refusal::EmidByte)?;
     if info.custom_markers {
         marker_faults(markers, raw, info.text.rule, area.first, area.end)

@@ -1,5 +1,6 @@
 // What PROP tells, and the replacement byte (24 to 29).
-ghost use Rattle.std.specs.Prelude.{◌≡◌};
+ghost use Rattle.std.specs.Prelude.{◌≡◌, map};
+ghost use Rattle.refusal.specs.Orders.{property_rank, each_once};
 ghost use Rattle.rules.specs.Property.{replacement_wrong, numbers_fault, start_fault, property_faults};
 
 use build_options::area::{Area, is_unspecified};
@@ -39,6 +40,14 @@ fn numbers_fault(area: Area, numbers: Option<ChannelNumbers>) -> Verdict
     }
 }
 
+// Whether each chunk of PROP is named once.
+fn has_each_once(order: [PropertyChunk; 5]) -> bool
+    ensures { result ≡ each_once (map property_rank order) 5 }
+{
+    let names = PropertyChunk::table_order();
+    each_once(&order, &names)
+}
+
 // 29
 #[tactic(auto, using(refusal::proofs::VerdictLaws::in_turn), unfolding(crate::specs::Property::start_fault))]
 fn start_fault(area: Area, start: Option<u32>) -> Verdict
@@ -60,7 +69,6 @@ pub fn property_faults(area: Area, o: Options, s: Settings, order: [PropertyChun
 {
     refuse_if(replacement_wrong(o.text_replacement), Refusal::Replacement)?;
     numbers_fault(area, o.channel_numbers)?;
-    let names = PropertyChunk::table_order();
-    refuse_if(!each_once(&order, &names), Refusal::PropertyOrder)?;
+    refuse_if(!has_each_once(order), Refusal::PropertyOrder)?;
     start_fault(area, s.start)
 }

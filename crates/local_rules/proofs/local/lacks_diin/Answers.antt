@@ -10,6 +10,6 @@ returns c = rw (
   ← c.lacks.ensures,
   c.if-not-lacks.false,
   c.diin-end.ensures.place,
-  c.new-start.ensures,
+  c.new.ensures,
   diin-told,
 )

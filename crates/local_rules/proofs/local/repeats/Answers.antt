@@ -1,14 +1,25 @@
--- The goals that a check leaves.
-use mathlib.Core.Path.{refl}
-use borrow.Author.Rules.{rules}
-use Rattle.refusal.proofs.BelowLaws.{below_none, below_more, below_all}
+-- `local::repeats` meets its contract: the names in the order of their numbers. Assumes nothing.
+use mathlib.Core.List.{map}
+use mathlib.Core.Path.{◌≡◌, refl, ◌∙◌}
+use Prim.Native.Nat.{ℕ}
+use lib.Dec.{ltb}
+use borrow.Author.Tests.{le-ltb}
+use Rattle.refusal.specs.Below.{below}
+use Rattle.refusal.specs.Orders.{local_rank, times}
+use mathlib.Core.Bool.{Bool, true, false, ◌||◌}
 use Rattle.local_rules.proofs.local.repeats.Goals as goal
 
-pub loop-rank-init : goal.loop-rank-init
-loop-rank-init c = (search rules, below_none _ _ _)
+-- from the last on, or from the first
+turned : (a b c d e : Bool) → (a || (b || (c || (d || (e || false))))) ≡ (((((false || a) || b) || c) || d) || e)
+turned true b c d e = refl
+turned false true c d e = refl
+turned false false true d e = refl
+turned false false false true e = refl
+turned false false false false true = refl
+turned false false false false false = refl
 
-pub loop-rank-preserved : goal.loop-rank-preserved
-loop-rank-preserved c = (search rules, below_more _ _ _ _ c.loop-rank.invariant.1 (rw c.times.ensures) refl)
-
-pub returns : goal.returns
-returns c = below_all _ _ _ _ _ c.loop-rank.invariant.1 c.loop-rank.invariant.0 c.loop-rank-test.false
+pub returns-else-count-gt5 : goal.returns-else-count-gt5
+unfolding below
+returns-else-count-gt5 c =
+    let twice : ℕ → Bool = λ rank. ltb 1 (times (map local_rank c.args.order.now) rank) in
+    rw (le-ltb _ _ c.if-count-gt5.false) (c.any_twice.ensures ∙ turned (twice 0) (twice 1) (twice 2) (twice 3) (twice 4))

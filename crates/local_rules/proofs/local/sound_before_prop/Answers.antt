@@ -1,14 +1,19 @@
--- The goals that a check leaves.
-use mathlib.Core.Path.{refl}
-use borrow.Author.Rules.{rules}
-use Rattle.refusal.proofs.BelowLaws.{below_none, below_more, below_all}
+-- `local::sound_before_prop` meets its contract. Assumes nothing.
+use mathlib.Core.Path.{refl, ◌∙◌}
+use mathlib.Core.List.{map}
+use native.Mathlib.Omega.{arith}
+use lib.ListN.{length, length-map}
+use Rattle.std.proofs.Common.{rules, tests}
+use Rattle.std.proofs.lemmas.Iterator.{YieldsList-from_range}
+use Rattle.std.proofs.lemmas.Iterator.Search.{any_from_yields_List}
+use Rattle.refusal.specs.Orders.{local_rank}
+use Rattle.refusal.proofs.AnyLaws.{any-range}
+use Rattle.local_rules.specs.Local.{sound_first}
 use Rattle.local_rules.proofs.local.sound_before_prop.Goals as goal
 
-pub loop-k-init : goal.loop-k-init
-loop-k-init c = (search rules, below_none _ _ _)
-
-pub loop-k-preserved : goal.loop-k-preserved
-loop-k-preserved c = (search rules, below_more _ _ _ _ c.loop-k.invariant.1 (rw c.sound_first-found.ensures) refl)
-
 pub returns : goal.returns
-returns c = below_all _ _ _ _ _ c.loop-k.invariant.1 c.loop-k.invariant.0 c.loop-k-test.false
+returns c =
+    rw (length-map c.args.order.now local_rank)
+    (any_from_yields_List (sound_first (map local_rank c.args.order.now)) _ _ _ c.any.ensures.ran
+    (YieldsList-from_range 0 (length c.args.order.now) (length c.args.order.now) refl (omega arith)) (λ x b q k. search (rules, tests))
+    ∙ any-range _ _)
