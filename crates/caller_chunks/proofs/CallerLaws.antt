@@ -1,19 +1,15 @@
 -- The caller's chunks, row by row. Assumes nothing.
 use mathlib.Core.Path.{◌≡◌, sym, ◌∙◌}
 use mathlib.Core.List.{List, [], ◌∷◌, ◌++◌}
-use Prim.Native.Nat.{ℕ, suc, ◌+◌, ◌-◌, ◌*◌, ◌/◌, ◌≤◌, ◌<◌}
+use Prim.Native.Nat.{ℕ, suc, ◌+◌, ◌*◌, ◌/◌, ◌≤◌, ◌<◌}
 use native.Mathlib.Omega.{arith}
-use lib.ListN.{length, take, drop, length-take, length-drop, length-append}
+use lib.ListN.{length, take, drop, length-append}
 use lib.Seq.{take_all, take-append_seam, drop-append_seam}
 use Rattle.chunk.specs.Rows.{first_rows, rows}
 use Rattle.tree.specs.Tree.{bytes, each}
 use Rattle.chunk.proofs.RowsLaws.{length-rows, get_rows}
 use Rattle.tree.proofs.TreeLaws.{bytes-each-next, bytes-each-append, bytes-each-one}
 use Rattle.caller_chunks.specs.Caller.{caller_chunk, caller_chunks}
-
--- row i is whole
-pub row-whole : (words : List ℕ) (i : ℕ) → i < length words / 3 → length (take (i * 3 + 3 - i * 3) (drop (i * 3) words)) ≡ 3
-row-whole words i h = simp (length-take, length-drop) (omega arith)
 
 -- the chunks of the first i rows
 abbrev pub first_chunks : List ℕ → List ℕ → ℕ → List ℕ

@@ -14,6 +14,7 @@ use Rattle.master_info.specs.Diin.{has_diin}
 use Rattle.master_info.specs.declared.diin.Info.{Info}
 use Rattle.prop_fields.specs.Layout.{channel_count}
 use Rattle.prop_fields.specs.Start.{is_given, start_frame}
+use Rattle.refusal.specs.declared.verdict.Refusal.TheVariants as refused
 use Rattle.refusal.specs.Verdict.{or_else}
 use Rattle.refusal.specs.Below.{any}
 use Rattle.row_extents.specs.Extents.{too_large, outside_pool}
@@ -35,7 +36,7 @@ use Rattle.rules.specs.Limits.{longest_text, longest_caller_chunk, most_tracks, 
 use Rattle.area_rules.specs.Master.{track_faults}
 use Rattle.rules.specs.Property.{replacement_wrong, numbers_fault, last_frame_of_day, start_fault, property_faults}
 use Rattle.rules.specs.Info.{info_faults}
-use Rattle.local_rules.specs.Local.{repeats, lacks, sound_before_prop, lacks_any, local_faults}
+use Rattle.local_rules.specs.Local.{repeats, lacks, sound_before_prop, lacks_any, order_faults, local_faults}
 use Rattle.build_options.specs.Inputs.{Inputs}
 use Rattle.checks.specs.InputVerdict.{given_faults, chunk_faults, verdict}
 
@@ -144,9 +145,9 @@ module _ (x : Inputs) (ok : verdict x ≡ Ok tt) where
       × (not (eqb (channel_count x.area.layout x.area.channels) x.area.channels) ≡ false)
   unfolding area_fault
   area_tests =
-      let six = after (ltb longest_playtime x.area.playtime) 6 0 area-part in
-      let seven = after (ltb x.area.channels 1 || ltb 6 x.area.channels) 7 0 six.1 in
-      (six.0, seven.0, if-accepted _ 8 0 seven.1)
+      let six = after (ltb longest_playtime x.area.playtime) refused.Playtime area-part in
+      let seven = after (ltb x.area.channels 1 || ltb 6 x.area.channels) refused.Channels six.1 in
+      (six.0, seven.0, if-accepted _ refused.ChannelsOfLayout seven.1)
 
   pub playtime_bound : x.area.playtime ≤ longest_playtime
   playtime_bound = ltb-false longest_playtime x.area.playtime area_tests.0
@@ -165,8 +166,8 @@ module _ (x : Inputs) (ok : verdict x ≡ Ok tt) where
   lengths_tests : ((turned || not (eqb (length x.lengths) (lengths_wanted x.area))) ≡ false) × (lengths_wrong x.lengths ≡ false)
   unfolding lengths_fault
   lengths_tests =
-      let nine = after (turned || not (eqb (length x.lengths) (lengths_wanted x.area))) 9 0 lengths-part in
-      (nine.0, if-accepted _ 10 0 nine.1)
+      let nine = after (turned || not (eqb (length x.lengths) (lengths_wanted x.area))) refused.LengthsCount lengths-part in
+      (nine.0, if-accepted _ refused.FrameLength nine.1)
 
   pub lengths-number : length x.lengths ≡ lengths_wanted x.area
   lengths-number = not-not (neither turned _ lengths_tests.0).1
@@ -183,10 +184,10 @@ module _ (x : Inputs) (ok : verdict x ≡ Ok tt) where
   pub range_inside : (x.area.first < x.area.end) × (x.area.end ≤ x.area.playtime)
   unfolding range_fault
   range_inside =
-      let eleven = after (ltb x.area.end x.area.first || ltb x.area.playtime x.area.end) 11 0 range-part in
+      let eleven = after (ltb x.area.end x.area.first || ltb x.area.playtime x.area.end) refused.Range range-part in
       let both = neither (ltb x.area.end x.area.first) _ eleven.0 in
       let forward = ltb-false x.area.end x.area.first both.0 in
-      let differ = eqb-false x.area.first x.area.end (if-accepted _ 12 0 eleven.1) in
+      let differ = eqb-false x.area.first x.area.end (if-accepted _ refused.EmptyRange eleven.1) in
       (omega (arith, forward, differ), ltb-false x.area.playtime x.area.end both.1)
 
   -- 1 and 2, of each kind of rows
@@ -195,8 +196,8 @@ module _ (x : Inputs) (ok : verdict x ≡ Ok tt) where
   unfolding given_faults limit_faults
   large_outside =
       let limits = (or-accepted (limit_faults x.options x.pool x.raw x.tracks x.markers x.comments x.callers) _ given-ok).0 in
-      let one = after (any_too_large x.options x.tracks x.markers x.comments x.callers) 1 0 limits in
-      (one.0, (after (any_outside x.options (length x.pool) (length x.raw) x.tracks x.markers x.comments x.callers) 2 0 one.1).0)
+      let one = after (any_too_large x.options x.tracks x.markers x.comments x.callers) refused.TooLarge limits in
+      (one.0, (after (any_outside x.options (length x.pool) (length x.raw) x.tracks x.markers x.comments x.callers) refused.OutsidePool one.1).0)
 
   abbrev tags : List ℕ
   tags = tag_rows x.options.album x.options.track
@@ -268,21 +269,21 @@ module _ (x : Inputs) (ok : verdict x ≡ Ok tt) where
   callers-named k h =
       let names = (or-accepted (limit_faults x.options x.pool x.raw x.tracks x.markers x.comments x.callers) _ given-ok).1 in
       let one = none-refused (λ i. name_fault (caller_name x.callers i)) (count_of_rows Caller x.callers) names k h in
-      if-accepted _ 5 0 (after (is_no_name (caller_name x.callers k)) 4 0 one).1
+      if-accepted _ refused.ReservedName (after (is_no_name (caller_name x.callers k)) refused.CallerName one).1
 
   -- 28 and 29
   property_tests : (not (each_once (map property_rank x.property_order) 5) ≡ false) × (start_fault x.area (effective x.options).start ≡ Ok tt)
   unfolding property_faults
   property_tests =
-      let rest = (after (replacement_wrong x.options.text_replacement) 24 0 property-ok).1 in
-      after (not (each_once (map property_rank x.property_order) 5)) 28 0 (or-accepted (numbers_fault x.area x.options.channel_numbers) _ rest).1
+      let rest = (after (replacement_wrong x.options.text_replacement) refused.Replacement property-ok).1 in
+      after (not (each_once (map property_rank x.property_order) 5)) refused.PropertyOrder (or-accepted (numbers_fault x.area x.options.channel_numbers) _ rest).1
 
   pub property-once : (rank : ℕ) → rank < 5 → times (map property_rank x.property_order) rank ≡ 1
   property-once = once (map property_rank x.property_order) 5 property_tests.0
 
   pub start-inside : is_given (effective x.options).start ≡ true → start_frame (effective x.options).start + area_positions x.area ≤ last_frame_of_day
   unfolding start_fault
-  start-inside given = ltb-false last_frame_of_day _ (wanted given (if-accepted _ 29 0 property_tests.1))
+  start-inside given = ltb-false last_frame_of_day _ (wanted given (if-accepted _ refused.Start property_tests.1))
 
   -- the parts of 30 to 39
   info-part : info_faults x.area info x.info_order x.raw x.markers ≡ Ok tt
@@ -299,7 +300,7 @@ module _ (x : Inputs) (ok : verdict x ≡ Ok tt) where
   -- 30
   pub info-once : info.on ≡ true → (rank : ℕ) → rank < 4 → times (map info_rank x.info_order) rank ≡ 1
   unfolding info_faults
-  info-once on = once (map info_rank x.info_order) 4 (after (not (each_once (map info_rank x.info_order) 4)) 30 0 (rw on at info-part)).0
+  info-once on = once (map info_rank x.info_order) 4 (after (not (each_once (map info_rank x.info_order) 4)) refused.InfoOrder (rw on at info-part)).0
 
   -- 36
   pub comments-few : length (written_comments x.pool x.comments (text_options x.options)) ≤ 65_535
@@ -309,11 +310,11 @@ module _ (x : Inputs) (ok : verdict x ≡ Ok tt) where
   local_tests : ((ltb 5 x.local_count || repeats named) ≡ false)
       × (lacks_any x.pool x.raw x.tracks x.markers x.comments x.info_order info has_index named ≡ false)
       × (sound_before_prop named ≡ false)
-  unfolding local_faults
+  unfolding order_faults
   local_tests =
-      let first = after (ltb 5 x.local_count || repeats named) 37 0 comments-local.1 in
-      let second = after (lacks_any x.pool x.raw x.tracks x.markers x.comments x.info_order info has_index named) 38 0 first.1 in
-      (first.0, second.0, if-accepted _ 39 0 second.1)
+      let first = after (ltb 5 x.local_count || repeats named) refused.LocalOrderRepeats comments-local.1 in
+      let second = after (lacks_any x.pool x.raw x.tracks x.markers x.comments x.info_order info has_index named) refused.LocalOrderLacks first.1 in
+      (first.0, second.0, if-accepted _ refused.SoundBeforeProperty second.1)
 
   pub local-count : x.local_count ≤ 5
   local-count = ltb-false 5 x.local_count (neither (ltb 5 x.local_count) _ local_tests.0).0

@@ -18,8 +18,7 @@ use rules::property::property_faults;
 // 1 to 5
 #[tactic(auto, using(refusal::proofs::VerdictLaws::in_turn), unfolding(crate::specs::InputVerdict::given_faults))]
 fn given_faults(inputs: &Inputs<'_>) -> Verdict
-    ensures {
-        let x = inputs_of inputs.now in result ≡ given_faults x.options x.pool x.raw x.tracks x.markers x.comments x.callers }
+    ensures { let x = inputs_of inputs.now in result ≡ given_faults x.options x.pool x.raw x.tracks x.markers x.comments x.callers }
 {
     limit_faults(inputs)?;
     caller_faults(inputs.lent.callers)
@@ -28,14 +27,24 @@ fn given_faults(inputs: &Inputs<'_>) -> Verdict
 // 30 to 39
 #[tactic(auto, using(refusal::proofs::VerdictLaws::in_turn), unfolding(crate::specs::InputVerdict::chunk_faults))]
 fn chunk_faults(inputs: &Inputs<'_>, s: Settings) -> Verdict
-    ensures {
-        let x = inputs_of inputs.now in
+    ensures { let x = inputs_of inputs.now in
         result ≡ chunk_faults x.area x.options s x.info_order x.local_order x.local_count x.pool x.raw x.tracks x.markers x.comments }
 {
     let info = info_of(inputs.area, inputs.options, s);
     let pools = inputs.lent.pools;
-    info_faults(inputs.area, info, inputs.info_order, pools.bytes, inputs.lent.markers)?;
-    comment_faults(inputs.lent.comments, pools.text, info.text, inputs.area.channels)?;
+    info_faults(
+        inputs.area,
+        info,
+        inputs.info_order,
+        pools.bytes,
+        inputs.lent.markers,
+    )?;
+    comment_faults(
+        inputs.lent.comments,
+        pools.text,
+        info.text,
+        inputs.area.channels,
+    )?;
     local_faults(inputs, info)
 }
 

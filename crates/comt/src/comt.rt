@@ -57,7 +57,7 @@ fn reference(c: Comment) -> u32
     if c.kind == 0 { 0 } else { c.reference }
 }
 
-// A comment's 10 bytes before its text. Of a number that passes its field, the low bytes.
+// A comment's 10 bytes before its text. Of a number that passes its field, the low bytes: by division, since a cast that may lose bits is refused.
 fn comment_head(c: Comment) -> [u8; 10]
     ensures { result ≡ comment_head c }
 {

@@ -40,8 +40,7 @@ fn properties_of(area: Area, o: Options, s: Settings) -> Properties
 }
 
 fn property_chunk(c: Cursor, out: &mut [u8], inputs: &Inputs<'_>) -> Cursor
-    ensures {
-        let x = inputs_of inputs.now in
+    ensures { let x = inputs_of inputs.now in
         Appended out.old c.at (bytes (property x.property_order (properties_of x.area x.options (effective x.options)))) out.new result.at }
 {
     let settings = effective(inputs.options);
@@ -50,9 +49,9 @@ fn property_chunk(c: Cursor, out: &mut [u8], inputs: &Inputs<'_>) -> Cursor
 }
 
 // The index: none for DSD, or if it is switched off.
+#[tactic(auto, using(chunk::proofs::AppendLaws::none))]
 fn index_chunk(c: Cursor, out: &mut [u8], inputs: &Inputs<'_>, base: u64) -> Cursor
-    ensures {
-        let x = inputs_of inputs.now in
+    ensures { let x = inputs_of inputs.now in
         Appended out.old c.at
         (cond (is_dst x.area.sound && x.options.dst_index) (dsti x.options.dst_crc (moved base (shift_of x.options.dst_index_offset)) x.lengths) [])
         out.new result.at }
@@ -72,8 +71,7 @@ fn index_chunk(c: Cursor, out: &mut [u8], inputs: &Inputs<'_>, base: u64) -> Cur
 }
 
 fn info_chunk(c: Cursor, out: &mut [u8], inputs: &Inputs<'_>) -> Cursor
-    ensures {
-        let x = inputs_of inputs.now in
+    ensures { let x = inputs_of inputs.now in
         Appended out.old c.at
         (bytes (diin x.pool x.raw x.tracks x.markers (info_of x.area x.options (effective x.options)) x.info_order))
         out.new result.at }
@@ -89,6 +87,7 @@ fn info_chunk(c: Cursor, out: &mut [u8], inputs: &Inputs<'_>) -> Cursor
 }
 
 // A local chunk other than the sound.
+#[tactic(auto, using(chunk::proofs::AppendLaws::none), unfolding(file_tree::specs::Sides::local_bytes))]
 fn local_chunk(
     c: Cursor,
     out: &mut [u8],
@@ -129,6 +128,13 @@ fn on_side(behind: bool, passed: bool, sound: bool) -> bool
     if behind { passed } else { !(passed | sound) }
 }
 
+// The names that are given, at most all of them.
+fn given_names(order: &[LocalChunk; 5], count: u32) -> &[LocalChunk]
+    ensures { result.now ≡ given_names order.now count }
+{
+    &order[..count.min(5) as usize]
+}
+
 // The local chunks before the sound or, if `behind`, those behind it.
 pub(crate) fn local_chunks(
     c: Cursor,
@@ -137,14 +143,12 @@ pub(crate) fn local_chunks(
     base: u64,
     behind: bool,
 ) -> Cursor
-    ensures {
-        let x = inputs_of inputs.now in
+    ensures { let x = inputs_of inputs.now in
         Appended out.old c.at (locals_bytes (parts x) base (side behind (given_names x.local_order x.local_count))) out.new result.at }
 {
     let mut c = c;
     let mut passed = false; // whether the sound was met
-    let order = inputs.local_order;
-    for name in &order[..inputs.local_count.min(5) as usize] {
+    for name in given_names(&inputs.local_order, inputs.local_count) {
         let sound = is_sound(*name);
         if on_side(behind, passed, sound) {
             c = local_chunk(c, out, inputs, base, *name);

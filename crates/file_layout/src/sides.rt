@@ -17,8 +17,7 @@ const VERSION: [u8; 4] = [1, 5, 0, 0];
 // The form, FVER, the local chunks before the sound, and the sound chunk's head, where the sound has `size` bytes. The index's offsets are counted from
 // `base`, the place of the first sound byte.
 pub fn front_sized(c: Cursor, out: &mut [u8], inputs: &Inputs<'_>, size: u64, base: u64) -> Cursor
-    ensures {
-        let x = inputs_of inputs.now in
+    ensures { let x = inputs_of inputs.now in
         Appended out.old c.at (front_sized (parts x) size base (given_names x.local_order x.local_count)) out.new result.at }
 {
     let c = c.name(out, *b"DSD ");
@@ -29,8 +28,7 @@ pub fn front_sized(c: Cursor, out: &mut [u8], inputs: &Inputs<'_>, size: u64, ba
 
 // The local chunks behind the sound, and the caller's chunks.
 pub fn back(c: Cursor, out: &mut [u8], inputs: &Inputs<'_>, base: u64) -> Cursor
-    ensures {
-        let x = inputs_of inputs.now in
+    ensures { let x = inputs_of inputs.now in
         Appended out.old c.at (back (parts x) base (given_names x.local_order x.local_count) x.callers) out.new result.at }
 {
     let c = local_chunks(c, out, inputs, base, true);

@@ -21,6 +21,7 @@ fn dsd_size(area: Area) -> u64
 }
 
 // The sound's length, at most the largest u64.
+#[tactic(auto, unfolding(file_tree::specs::Sound::sound_size))]
 pub fn sound_size(area: Area, crc: bool, lengths: &[u32]) -> u64
     ensures { result ≡ min (sound_size area.sound area crc lengths.now) (2 ^ 64 - 1) }
 {
@@ -31,6 +32,7 @@ pub fn sound_size(area: Area, crc: bool, lengths: &[u32]) -> u64
 }
 
 // The sound chunk's name and size and, of DST, FRTE, of so many bytes of sound in so many frames.
+#[tactic(auto, unfolding(file_tree::specs::Sized::sound_head_sized))]
 pub fn sound_head_sized(c: Cursor, out: &mut [u8], sound: Sound, size: u64, frames: usize) -> Cursor
     ensures { Appended out.old c.at (sound_head_sized sound size frames) out.new result.at }
 {

@@ -5,4 +5,4 @@ use Rattle.file_layout.proofs.sides.back.Goals as goal
 
 pub returns : goal.returns
 unfolding back
-returns c = c.local_chunks-end.ensures then c.caller_chunks.ensures
+returns c = c.local_chunks-c.ensures then c.caller_chunks.ensures

@@ -8,6 +8,3 @@ use Rattle.file_layout.proofs.sound.dsd_size.Goals as goal
 pub overflow_mul-result : goal.overflow_mul-result
 overflow_mul-result c = rw (c.frame_bytes.ensures, mul_comm)
     (omega (arith, sound-short c.args.area.channels c.positions.result (search rules) (search rules)))
-
-pub returns : goal.returns
-returns c = rw (c.positions.ensures, c.frame_bytes.ensures)
