@@ -9,7 +9,7 @@ use build_answer::answer::{Answer, Built};
 use build_options::inputs::Inputs;
 use checks::verdict::verdict;
 use header_trailer::fill::fill_around;
-use header_trailer::measure::measure;
+use header_trailer::measure::{measure, orders};
 use room_rules::room::room_faults;
 
 // What an accepted build does: measure, see that the buffers have room, write.
@@ -34,6 +34,7 @@ fn lay_out(inputs: &Inputs<'_>, header: &mut [u8], trailer: &mut [u8]) -> Answer
 pub fn build_rows(inputs: &Inputs<'_>, header: &mut [u8], trailer: &mut [u8]) -> Answer
     ensures { Builds (inputs_of inputs.now) header.old header.new trailer.old trailer.new result }
 {
+    orders(inputs);
     verdict(inputs)?;
     lay_out(inputs, header, trailer)
 }
