@@ -1,7 +1,7 @@
 -- The index of an accepted DST build: how many bytes it has, and each entry's own place and length. Assumes nothing.
 use mathlib.Core.Path.{◌≡◌, refl, sym, ap, subst, ◌∙◌}
 use mathlib.Core.List.{List, [], ◌∷◌}
-use Prim.Native.Nat.{ℕ, zero, suc, ◌+◌, ◌-◌, ◌*◌, ◌^◌, ◌≤◌, ◌<◌}
+use Prim.Native.Nat.{ℕ, zero, suc, ◌+◌, ◌*◌, ◌^◌, ◌≤◌, ◌<◌}
 use native.Mathlib.Nat.{not-suc-le-zero, le_of_suc-le-suc}
 use native.Mathlib.Omega.{arith}
 use lib.ListN.{length, get_or, length-map}
@@ -21,13 +21,14 @@ use Rattle.refusal.specs.Verdict.{Verdict}
 use Rattle.std.specs.Prelude.{Ok, Err}
 use Rattle.refusal.proofs.VerdictLaws.{none_so, inside}
 use Rattle.rows.specs.Lengths.{length_wrong, lengths_wrong}
+use Rattle.build_answer.specs.declared.answer.Built.{Built}
 use Rattle.assemble.specs.Build.{build_verdict, Outcome, Builds}
 use Rattle.build_options.specs.Inputs.{Inputs}
 use Rattle.checks.specs.InputVerdict.{verdict}
 use Rattle.checks.proofs.AcceptedLaws.{lengths-right}
 use Rattle.file_tree.specs.Sound.{Fits, sound_size}
 use Rattle.file_tree.specs.Parts.{parts, index_of}
-use Rattle.file_tree.specs.File.{place, header_of}
+use Rattle.file_tree.specs.File.{place, sound_length, header_of, trailer_of}
 use Rattle.file_tree.proofs.FileLaws.{length-header}
 use Rattle.accepted_file.proofs.SizeLaws.{sound-low, front_low}
 use Rattle.dsdiff.proofs.WholeLaws.{made}
@@ -48,12 +49,14 @@ length_at (f ∷ fs) zero unused h = refl
 length_at (f ∷ fs) (suc i) unused h = length_at fs i unused (le_of_suc-le-suc h)
 
 -- the header's length that a build answers
-header-length : (x : Inputs) (h t : List ℕ) {h' t' : List ℕ} {a c d : ℕ} → Builds x h h' t t' (Ok (record { header = a; sound = c; trailer = d })) → a ≡ length (header_of x)
-header-length x h t {h'} {t'} {a} {c} {d} outcome = by (build_verdict x h t) outcome
+header-length : (x : Inputs) (h t : List ℕ) {h' t' : List ℕ} {built : Built} → Builds x h h' t t' (Ok built) → built.header ≡ length (header_of x)
+header-length x h t {h'} {t'} {built} outcome = by (build_verdict x h t) outcome
   where
-    by : (v : Verdict) → Outcome x v h h' t t' (Ok (record { header = a; sound = c; trailer = d })) → a ≡ length (header_of x)
-    by (Ok tt) o = let e = o.answers in cc
-    by (Err r) o = let e = o.answers in absurd (cc e)
+    by : (v : Verdict) → Outcome x v h h' t t' (Ok built) → built.header ≡ length (header_of x)
+    by (Ok tt) o =
+        let same : built ≡ record { header = length (header_of x); sound = sound_length x; trailer = length (trailer_of x) } = cc o.answers in
+        ap (λ (a : Built). a.header) same
+    by (Err r) o = absurd (cc o.answers)
 
 module _ (b : AcceptedBuild) (fs : List Frame) (recorded : Recorded b.inputs fs) (dst : b.inputs.area.sound ≡ Dst) where
   abbrev x : Inputs

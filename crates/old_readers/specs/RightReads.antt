@@ -1,10 +1,9 @@
 -- NO READ OF AN ACCEPTED BUILD IS REFUSED that was given what the build was given and made, and lent just what it needs of frames of the given lengths. Assumes nothing.
-use Rattle.std.specs.Prelude.{◌≡◌, List, [], ℕ}
+use Rattle.std.specs.Prelude.{◌≡◌, List, [], ℕ, Ok}
 use Rattle.dst.specs.Frame.{Frame}
 use Rattle.dst.specs.Unit.{lengths}
 use Rattle.prop_fields.specs.declared.compression.Sound.{Sound}
 use Rattle.prop_fields.specs.declared.compression.Sound.TheVariants.{Dsd, Dst}
-use Rattle.std.specs.Prelude.{Ok}
 use Rattle.sound_reads.specs.Positions.{between}
 use Rattle.file_read.specs.Read.{Request, needed_for, read_verdict}
 use Rattle.old_readers.specs.Premises.{AcceptedBuild, Recorded, WasGiven}

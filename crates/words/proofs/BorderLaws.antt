@@ -7,6 +7,9 @@ use native.Mathlib.Omega.{arith}
 use lib.Dec.{eqb, ltb}
 use borrow.Author.Tests.{eqb-true, eqb-false, ltb-false, not-false}
 use lib.ListN.{length}
+use Rattle.refusal.specs.declared.verdict.Refusal.TheVariants as refused
+use Rattle.std.specs.Prelude.{Option, None, Some, cond}
+use Rattle.words.specs.Inputs.{halves_of}
 use Rattle.refusal.specs.Orders.{property_rank, info_rank, local_rank}
 use Rattle.refusal.proofs.VerdictLaws.{or-accepted, after, if-accepted, none_so}
 use Rattle.meanings.specs.Property.{layout_of, property_chunk_of}
@@ -77,24 +80,26 @@ pub every-word-exact : EveryWordExact
 unfolding words_fault field_faults name_faults inputs_of_words area_of choices_of channel_numbers_of
 every-word-exact w pool raw tracks markers comments callers lengths ok =
     let both = or-accepted (field_faults w) (name_faults w) ok in
-    let h2 = after (not (eqb (length w) word_count)) 2 0 both.0 in
-    let h7 = after (exceeds w 2 1 255) 7 0 h2.1 in
-    let h8 = after (exceeds w 3 1 3) 8 0 h7.1 in
-    let h13 = after (exceeds w 21 1 65_535) 13 0 h8.1 in
-    let h24 = after (exceeds w 47 1 255) 24 0 h13.1 in
-    let h26 = if-accepted (exceeds w 8 6 65_535) 26 0 h24.1 in
-    let h28 = after (exceeds w 52 5 4) 28 0 both.1 in
-    let h30 = after (exceeds w 57 4 3) 30 0 h28.1 in
-    let h30' = after (exceeds w 32 2 2) 30 0 h30.1 in
-    let h37 = if-accepted (exceeds w 61 5 4) 37 0 h30'.1 in
+    let h2 = after (not (eqb (length w) word_count)) refused.OutsidePool both.0 in
+    let h7 = after (exceeds w 2 1 255) refused.Channels h2.1 in
+    let h8 = after (exceeds w 3 1 3) refused.ChannelsOfLayout h7.1 in
+    let h13 = after (exceeds w 21 1 65_535) refused.NoSourceTrack h8.1 in
+    let h24 = after (exceeds w 47 1 255) refused.Replacement h13.1 in
+    let h26 = if-accepted (exceeds w 8 6 65_535) refused.ChannelNumberTooLarge h24.1 in
+    let h28 = after (exceeds w 52 5 4) refused.PropertyOrder both.1 in
+    let h30 = after (exceeds w 57 4 3) refused.InfoOrder h28.1 in
+    let h30' = after (exceeds w 32 2 2) refused.InfoOrder h30.1 in
+    let h37 = if-accepted (exceeds w 61 5 4) refused.LocalOrderRepeats h30'.1 in
     let small : (k : ℕ) → k < 6 → word_of w (8 + k) % 2 ^ 16 ≡ word_of w (8 + k) = λ k h. low_half (word_of w (8 + k)) (most_of w 8 6 65_535 h26 k h) in
+    let halves : halves_of w ≡ words_of w 8 6 = rw (small 0 (omega arith), small 1 (omega arith), small 2 (omega arith), small 3 (omega arith), small 4 (omega arith), small 5 (omega arith)) in
     let layout = most_of w 3 1 3 h8.0 0 (omega arith) in
     let source = most_of w 32 2 2 h30'.0 1 (omega arith) in
     record {
       many = eqb-true (length w) word_count (not-false (eqb (length w) word_count) h2.0);
       channels = low_byte (word_of w 2) (most_of w 2 1 255 h7.0 0 (omega arith));
       layout = rw (low_byte (word_of w 3) (omega (arith, layout))) (layouts (word_of w 3) layout);
-      numbers = rw (small 0 (omega arith), small 1 (omega arith), small 2 (omega arith), small 3 (omega arith), small 4 (omega arith), small 5 (omega arith));
+      halves = halves;
+      numbers = ap (λ (l : List ℕ). cond (is_set w 6) (Some (record { count = word_of w 7; numbers = l })) None) halves;
       source_track = low_half (word_of w 21) (most_of w 21 1 65_535 h13.0 0 (omega arith));
       artist_title = switches (word_of w 32) (most_of w 32 2 2 h30'.0 0 (omega arith));
       artist_title_source = rw (low_byte (word_of w 33) (omega (arith, source))) (sources (word_of w 33) source);
