@@ -1,5 +1,5 @@
 -- An accepted build's header, sound and trailer are far below what a size can tell, and the sound is named once. Assumes nothing.
-use mathlib.Core.Path.{◌≡◌, refl, ap}
+use mathlib.Core.Path.{◌≡◌, refl}
 use mathlib.Core.Bool.{Bool, true, false, cond}
 use mathlib.Core.List.{List, [], ◌∷◌, ◌++◌, map, flat_map}
 use Prim.Native.Nat.{ℕ, zero, suc, ◌+◌, ◌-◌, ◌*◌, ◌/◌, ◌^◌, ◌≤◌, ◌<◌, min}
@@ -9,6 +9,7 @@ use native.Mathlib.Omega.{arith}
 use lib.Dec.{eqb}
 use borrow.Author.Tests.{eqb-false}
 use lib.ListN.{length, get_or, take, drop, length-append}
+use Rattle.std.proofs.lemmas.List.{take-map}
 use Rattle.chunk.specs.Number.{be}
 use Rattle.chunk_names.specs.Name.{ascii}
 use Rattle.chunk.specs.Chunk.{chunk, occupied}
@@ -82,22 +83,15 @@ sides-room f (c ∷ cs) = rw (length-append) (go (is_sound c) (sides-room f cs))
 abbrev local_mosts : ℕ → ℕ
 local_mosts r = get_or (207 ∷ 0 ∷ (2 ^ 24) ∷ (13 + 2 ^ 38) ∷ (2 ^ 36) ∷ []) r 0
 
-rank_take : (n : ℕ) (cs : List LocalChunk) → map local_rank (take n cs) ≡ take n (map local_rank cs)
-rank_take zero cs = refl
-rank_take (suc n) [] = refl
-rank_take (suc n) (c ∷ cs) = ap (λ (l : List ℕ). local_rank c ∷ l) (rank_take n cs)
-
-one_of : (n : ℕ) → n ≤ 1 → (n ≡ 0 → ⊥) → n ≡ 1
-one_of n most some = omega arith
-
 -- a local chunk is named at most once (37), and once if it is named
 named-few : (x : Inputs) → verdict x ≡ Ok tt → (rank : ℕ) → rank < 5 → times (map local_rank (given x)) rank ≤ 1
-named-few x ok rank h = rw (rank_take (min x.local_count 5) x.local_order) (accepted.local-once x ok rank h)
+named-few x ok rank h = rw (← take-map local_rank (min x.local_count 5) x.local_order) (accepted.local-once x ok rank h)
 
 pub named-once : (x : Inputs) → verdict x ≡ Ok tt → (rank : ℕ) → rank < 5
     → eqb (times (take (min x.local_count 5) (map local_rank x.local_order)) rank) 0 ≡ false → times (map local_rank (given x)) rank ≡ 1
 named-once x ok rank h named =
-    one_of _ (named-few x ok rank h) (rw (rank_take (min x.local_count 5) x.local_order) (eqb-false _ 0 named))
+    let some = rw (take-map local_rank (min x.local_count 5) x.local_order) at (eqb-false _ 0 named) in
+    omega (arith, named-few x ok rank h, some)
 
 module _ (x : Inputs) (ok : verdict x ≡ Ok tt) (sized : Ordered x) where
   pub positions_few : area_positions x.area ≤ 1_151_999

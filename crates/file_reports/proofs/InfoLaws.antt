@@ -13,8 +13,7 @@ use Rattle.texts.specs.Extent.{part}
 use Rattle.texts.specs.Text.{text_bytes, is_written}
 use Rattle.texts.specs.declared.text.TextOptions.{TextOptions}
 use Rattle.texts.proofs.TextLaws.{extent_short}
-use Rattle.diin_texts.specs.DiinText.{given_text_chunk, diin_text_chunk}
-use Rattle.diin_texts.specs.DiinText.{Text}
+use Rattle.diin_texts.specs.DiinText.{Text, given_text_chunk, diin_text_chunk}
 use Rattle.std.specs.Prelude.{None, Some}
 use Rattle.diin_texts.proofs.ValueLaws.{diin-text-value}
 use Rattle.markers.specs.declared.marker.Marker.{Marker}

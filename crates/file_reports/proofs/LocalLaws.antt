@@ -13,9 +13,8 @@ use Rattle.chunk_names.specs.declared.InfoChunk.TheVariants.{EditedMasterId, Mar
 use Rattle.texts.specs.Extent.{part}
 use Rattle.texts.specs.Text as texts
 use Rattle.texts.specs.declared.text.TextOptions.{TextOptions}
-use Rattle.diin_texts.specs.DiinText.{Text}
 use Rattle.std.specs.Prelude.{None, Some}
-use Rattle.diin_texts.specs.DiinText.{diin_text_value}
+use Rattle.diin_texts.specs.DiinText.{Text, diin_text_value}
 use Rattle.comt.specs.Comment.{written_comments, has_comt, comt_value}
 use Rattle.prop.specs.declared.property.Properties.{Properties}
 use Rattle.prop.specs.Property.{id_of, is_property_written}

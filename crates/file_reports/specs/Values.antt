@@ -1,7 +1,7 @@
 -- THE VALUES of the chunks of a build's file, from inputs and frames: the tree of the file with each chunk's value in place of its data (01, "Old readers": "the data, counted
 -- texts by their counts, pads left out (of a name that only a caller puts under this parent, all the data); but of FRM8 and PROP only the first four bytes, of DST and DIIN
 -- none"). Assumes nothing.
-use Rattle.std.specs.Prelude.{ℕ, Bool, cond, List, [], length}
+use Rattle.std.specs.Prelude.{ℕ, Bool, cond, List, [], length, None, Some}
 use Rattle.chunk.specs.Number.{be}
 use Rattle.chunk_names.specs.Name.{Name, ascii}
 use Rattle.chunk.specs.Chunk.{counts}
@@ -18,9 +18,7 @@ use Rattle.frame_time.specs.Time.{time_of, time_bytes}
 use Rattle.texts.specs.Extent.{part}
 use Rattle.texts.specs.Text.{text_bytes, is_written}
 use Rattle.texts.specs.declared.text.TextOptions.{TextOptions}
-use Rattle.diin_texts.specs.DiinText.{Text}
-use Rattle.std.specs.Prelude.{None, Some}
-use Rattle.diin_texts.specs.DiinText.{diin_text_value}
+use Rattle.diin_texts.specs.DiinText.{Text, diin_text_value}
 use Rattle.comt.specs.Comment.{written_comments, has_comt, comt_value}
 use Rattle.dst.specs.Frame.{Frame}
 use Rattle.prop_fields.specs.declared.compression.Sound.{Sound}

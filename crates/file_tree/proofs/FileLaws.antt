@@ -122,9 +122,6 @@ regroup d v a h s b c = simp append_assoc
 joined : (f n a s b : List ℕ) → f ++ n ++ (a ++ s ++ b) ≡ f ++ n ++ a ++ s ++ b
 joined f n a s b = simp append_assoc
 
-length_three : (a s b : List ℕ) → length (a ++ s ++ b) ≡ length a + length s + length b
-length_three a s b = rw (length-append, length-append)
-
 module _ (x : Inputs) (fs : List Frame) (fits : Fits x.area.sound x.area x.lengths fs)
     (one : times (map local_rank (given x)) 1 ≡ 1) (few : length x.lengths ≤ 2 ^ 60) (low : 18 + sound_length x < 2 ^ 64) where
   abbrev sound : List ℕ
@@ -147,8 +144,7 @@ module _ (x : Inputs) (fs : List Frame) (fits : Fits x.area.sound x.area x.lengt
   form-size : length (ascii "DSD " ++ bytes (form_chunks x fs)) ≡ form_size x
   form-size =
       ap length form-bytes
-      ∙ length_three (front_of x (place x)) sound (back_of x (place x))
-      ∙ ap (λ (n : ℕ). length (front_of x (place x)) + n + length (back_of x (place x))) (length-sound_bytes x.area.sound x.area x.options.dst_crc x.lengths fs fits)
+      ∙ rw (length-append, length-append, length-sound_bytes x.area.sound x.area x.options.dst_crc x.lengths fs fits)
 
   pub file-bytes : header_of x ++ sound ++ trailer_of x ≡ bytes (file_of x fs)
   unfolding header_of trailer_of file_of

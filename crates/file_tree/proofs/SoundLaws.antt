@@ -32,7 +32,7 @@ sound-head-sized Dst a crc ls n low e = rw (e, moved_capped)
 -- its length, whatever the size
 pub length-sound-head : (s : Sound) (a : Area) (crc : Bool) (ls : List ℕ) (n : ℕ) → length (sound_head_sized s n (length ls)) ≡ length (sound_head s a crc ls)
 unfolding sound_head sound_head_sized head head_sized
-length-sound-head Dsd a crc ls n = simp (length-append, length-be)
+length-sound-head Dsd a crc ls n = rw (length-be, length-be)
 length-sound-head Dst a crc ls n = simp (length-append, length-be)
 
 -- contents of k bytes each

@@ -25,24 +25,20 @@ pub record Parts : Type 0 where
   pub comments : List ℕ
   pub lengths : List ℕ
 
-abbrev pub parts_of : Area → Options → List PropertyChunk → List InfoChunk → List ℕ → List ℕ → List ℕ → List ℕ → List ℕ → List ℕ → Parts
-parts_of area options property_order info_order pool raw tracks markers comments lengths = record {
-  area = area;
-  options = options;
-  property_order = property_order;
-  info_order = info_order;
-  pool = pool;
-  raw = raw;
-  tracks = tracks;
-  markers = markers;
-  comments = comments;
-  lengths = lengths;
-}
-
 -- of all that a build is given
 abbrev pub parts : Inputs → Parts
-parts x =
-    parts_of x.area x.options x.property_order x.info_order x.pool x.raw x.tracks x.markers x.comments x.lengths
+parts x = record {
+  area = x.area;
+  options = x.options;
+  property_order = x.property_order;
+  info_order = x.info_order;
+  pool = x.pool;
+  raw = x.raw;
+  tracks = x.tracks;
+  markers = x.markers;
+  comments = x.comments;
+  lengths = x.lengths;
+}
 
 -- what PROP tells
 abbrev pub properties_of : Area → Options → Settings → Properties
