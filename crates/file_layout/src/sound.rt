@@ -1,5 +1,5 @@
 // The sound chunk up to the first sound byte, and the sound's length.
-ghost use Rattle.std.specs.Prelude.{◌≡◌, ◌*◌, ◌^◌, ◌-◌, min};
+ghost use Rattle.std.specs.Prelude.{◌≡◌, ◌<◌, ◌*◌, ◌^◌, ◌-◌, min};
 ghost use Rattle.chunk.specs.Append.{Appended};
 ghost use Rattle.dst.specs.Frame.{frame_bytes};
 ghost use Rattle.build_options.specs.Area.{area_positions};
@@ -14,6 +14,7 @@ use dst::unit::units;
 use prop_fields::compression::Sound;
 
 // The length of DSD sound: so many frames.
+#[tactic(auto, using(crate::proofs::SizeLaws::dsd_fits))]
 fn dsd_size(area: Area) -> u64
     ensures { result ≡ area_positions area * frame_bytes area.channels }
 {
@@ -21,9 +22,10 @@ fn dsd_size(area: Area) -> u64
 }
 
 // The sound's length, at most the largest u64.
-#[tactic(auto, unfolding(file_tree::specs::Sound::sound_size))]
+#[tactic(auto, using(crate::proofs::SizeLaws::dsd_fits), unfolding(file_tree::specs::Sound::sound_size))]
 pub fn sound_size(area: Area, crc: bool, lengths: &[u32]) -> u64
-    ensures { result ≡ min (sound_size area.sound area crc lengths.now) (2 ^ 64 - 1) }
+    ensures value { result ≡ min (sound_size area.sound area crc lengths.now) (2 ^ 64 - 1) }
+    ensures dsd_fits { area_positions area * frame_bytes area.channels < 2 ^ 64 }
 {
     match area.sound {
         Sound::Dsd => dsd_size(area),

@@ -27,7 +27,7 @@ module _ (known : Name → Name → Bool) (q : Properties) where
 
   -- the chunks have as many names as ranks
   ranked : (d c : PropertyChunk) → cond (same (id_of c) (id_of d)) (reported c) [] ≡ cond (eqb (property_rank c) (property_rank d)) (reported d) []
-  unfolding id_of same is_property_written property_value
+  unfolding same property_value
   ranked SampleRate SampleRate = refl
   ranked SampleRate _ = refl
   ranked Channels Channels = refl

@@ -31,7 +31,7 @@ use Rattle.file_reports.proofs.ReportLaws.{follows, Tells, stop_tells, leaf_tell
 
 module _ (known : Name → Name → Bool) where
   emid_tells : (raw : List ℕ) (id : Text) → Tells known (ascii "DIIN") (emid raw id) (emid raw id)
-  unfolding emid value same
+  unfolding value same
   emid_tells raw None = stop_tells
   emid_tells raw (Some e) = leaf_tells refl stop_tells
 
@@ -45,7 +45,7 @@ module _ (known : Name → Name → Bool) where
   -- DIAR and DITI
   text_tells : (name : Name) → (same name (ascii "DIAR") || same name (ascii "DITI")) ≡ true → (pool : List ℕ) (t : Text) (o : TextOptions)
       → ShortGiven longest_text t → Tells known (ascii "DIIN") (diin_text_chunk name pool t o) (text_told name pool t o)
-  unfolding diin_text_chunk given_text_chunk text_told converted_told
+  unfolding given_text_chunk text_told converted_told
   text_tells name is pool None o h = stop_tells
   text_tells name is pool (Some e) o h =
       let text = text_bytes o.rule (part pool e) in
@@ -54,7 +54,7 @@ module _ (known : Name → Name → Bool) where
 
   module _ (pool raw tracks custom : List ℕ) (info : Info) {k : ℕ} (l : Limited longest_text k tracks custom info) where
     pub info_tells : (c : InfoChunk) → Tells known (ascii "DIIN") (info_chunk pool raw tracks custom info c) (info_told pool raw tracks custom info c)
-    unfolding info_chunk info_told same
+    unfolding info_told same
     info_tells EditedMasterId = emid_tells raw info.emid
     info_tells Markers =
         each_tells (mark pool raw (marking info)) (mark_told pool raw (marking info)) (markers_of tracks custom info)

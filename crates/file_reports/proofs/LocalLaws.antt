@@ -63,7 +63,6 @@ module _ (p n : Name) (known : Name → Name → Bool) where
         missed_if p n known (ascii "DIIN") (texts.is_written o (length text)) _ (missed_leaf p n known (ascii "DIIN") name (diin_text_value text) (rw away))
 
     in_emid : (raw : List ℕ) (t : Text) → found p n known (ascii "DIIN") (emid raw t) ≡ []
-    unfolding emid
     in_emid raw None = found-stop p n known (ascii "DIIN")
     in_emid raw (Some t) = missed_leaf p n known (ascii "DIIN") (ascii "EMID") _ (rw away)
 

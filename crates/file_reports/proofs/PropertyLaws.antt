@@ -26,13 +26,12 @@ unfolding value same compression_data
 compression-value kind name d1 four small = counted-text 1 kind name _ 4 four small
 
 cmpr_value_lem : (s : Sound) (d1 : Bool) → value (ascii "PROP") (ascii "CMPR") (cmpr_data s d1) ≡ compression_value s
-unfolding cmpr_data
 cmpr_value_lem Dsd d1 = compression-value (ascii "DSD ") (ascii "not compressed") d1 refl (omega arith)
 cmpr_value_lem Dst d1 = compression-value (ascii "DST ") (ascii "DST Encoded") d1 refl (omega arith)
 
 -- the other chunks have no pad in their data
 property-value : (p : Properties) (part : PropertyChunk) → value (ascii "PROP") (id_of part) (content_of p part) ≡ property_value p part
-unfolding value same id_of content_of property_value
+unfolding value same property_value
 property-value p SampleRate = refl
 property-value p Channels = refl
 property-value p CompressionType = cmpr_value_lem p.sound p.d1

@@ -109,7 +109,7 @@ module _ (x : Inputs) (ok : verdict x ≡ Ok tt) (known : Name → Name → Bool
             ∙ rw e (passed-node (ascii "DST ") n known (ascii "FRM8") (ascii "DST ") [] _ refl ∙ rw k.0)
 
     pub recording : Recording x fs (told known x fs)
-    unfolding id_of is_property_written property_value
+    unfolding property_value
     recording = record {
       rate = property-told SampleRate (omega arith) knows.rate refl;
       channels = property-told Channels (omega arith) knows.channels refl;

@@ -24,6 +24,7 @@ pub fn half(words: &[u32], i: usize) -> u16
     (word(words, i) % 0x1_0000) as u16
 }
 
+#[tactic(auto, unfolding(crate::specs::Word::is_set))]
 pub fn is_set(words: &[u32], i: usize) -> bool
     ensures { result ≡ is_set words.now i }
 {
@@ -31,6 +32,7 @@ pub fn is_set(words: &[u32], i: usize) -> bool
 }
 
 // A text of three words from word i on.
+#[tactic(auto, unfolding(crate::specs::Word::text_at))]
 pub fn text_at(words: &[u32], i: u8) -> Option<Extent>
     ensures { result ≡ text_at words.now i }
 {

@@ -10,6 +10,7 @@ const DEFAULTS: [u32; 67] = [
     3, 1, 2, 5,
 ];
 
+#[tactic(auto, unfolding(crate::specs::Defaults::default_words))]
 pub fn default_words() -> [u32; 67]
     ensures { result ≡ default_words }
 {

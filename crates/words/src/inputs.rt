@@ -1,7 +1,9 @@
 // The area and the options of a build: words 0 to 51.
 ghost use Rattle.std.specs.Prelude.{◌≡◌};
-ghost use Rattle.words.specs.Inputs.{area_of, channel_numbers_of, choices_of};
+ghost use Rattle.build_options.specs.Inputs.{inputs_of};
+ghost use Rattle.words.specs.Inputs.{area_of, channel_numbers_of, choices_of, told};
 
+use crate::orders::{info_order, local_order, property_order};
 use build_options::area::Area;
 use build_options::inputs::{Inputs, Lent};
 use build_options::options::Options;
@@ -13,8 +15,8 @@ use meanings::sound::offset;
 use prop_fields::layout::ChannelNumbers;
 use single_words::word::{byte, half, is_set, text_at, word};
 use texts::extent::Extent;
-use crate::orders::{info_order, local_order, property_order};
 
+#[tactic(auto, unfolding(crate::specs::Inputs::area_of))]
 pub fn area_of(words: &[u32]) -> Area
     ensures { result ≡ area_of words.now }
 {
@@ -28,6 +30,7 @@ pub fn area_of(words: &[u32]) -> Area
     }
 }
 
+#[tactic(auto, unfolding(crate::specs::Inputs::channel_numbers_of))]
 pub fn channel_numbers(words: &[u32]) -> Option<ChannelNumbers>
     ensures { result ≡ channel_numbers_of words.now }
 {
@@ -37,6 +40,7 @@ pub fn channel_numbers(words: &[u32]) -> Option<ChannelNumbers>
     })
 }
 
+#[tactic(auto, unfolding(crate::specs::Inputs::choices_of))]
 pub fn options_of(words: &[u32]) -> Options
     ensures { result ≡ choices_of words.now }
 {
@@ -80,6 +84,7 @@ pub fn options_of(words: &[u32]) -> Options
 }
 
 // The inputs of a build that are told as words, with what is lent beside them.
+#[tactic(auto, unfolding(crate::specs::Inputs::inputs_of_words))]
 pub fn inputs_of<'a>(words: &[u32], lent: &Lent<'a>) -> Inputs<'a>
     ensures { inputs_of result ≡ told words.now lent.now }
 {

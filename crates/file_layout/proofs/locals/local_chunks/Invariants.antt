@@ -1,7 +1,7 @@
 -- `locals::local_chunks` meets its contract. The loop's invariant: of the first names, those on the side are appended, and `passed` says whether the sound is
 -- among them. Assumes nothing.
 use mathlib.Core.Path.{◌≡◌}
-use lib.ListN.{length, take}
+use lib.ListN.{take}
 use Rattle.chunk.specs.Append.{Appended}
 use Rattle.build_options.specs.Inputs.{inputs_of}
 use Rattle.file_tree.specs.Parts.{parts}

@@ -4,7 +4,7 @@ use Rattle.header_trailer.proofs.measure.measure.Goals as goal
 
 pub returns : goal.returns
 returns c = record {
-  orders = record { property = c.well_formed.1.1.0.1.0.1; info = c.well_formed.1.1.1.0.1.0.1; local = c.well_formed.1.1.1.1.0.1.0.1 };
+  orders = c.orders.ensures;
   front = rw (c.new-start.ensures, length-front-sized) at c.front_sized-front.ensures.place;
   back = rw c.new-start.ensures at c.back-back.ensures.place;
 }

@@ -1,18 +1,19 @@
--- The goals that a check leaves.
-use mathlib.Core.Path.{refl, ap}
-use Prim.Native.Nat.{◌-◌}
-use borrow.Author.Rules.{rules}
+-- `border::exceeds` meets its contract. Assumes nothing.
+use mathlib.Core.Path.{refl, ◌∙◌}
+use Prim.Native.Nat.{◌+◌}
+use native.Mathlib.Omega.{arith}
 use lib.Dec.{ltb}
-use Rattle.refusal.proofs.BelowLaws.{below_none, below_more, below_all}
+use Rattle.std.proofs.Common.{rules, tests}
+use Rattle.std.proofs.lemmas.Iterator.{YieldsList-from_range}
+use Rattle.std.proofs.lemmas.Iterator.Search.{any_from_yields_List}
+use Rattle.refusal.proofs.AnyLaws.{any-range}
+use Rattle.single_words.specs.Word.{word_of}
 use Rattle.words.specs.Border.{exceeds}
 use Rattle.words.proofs.border.exceeds.Goals as goal
 
-pub loop-k-init : goal.loop-k-init
-loop-k-init c = (search rules, below_none _ _ _)
-
-pub loop-k-preserved : goal.loop-k-preserved
-loop-k-preserved c = (search rules, below_more _ _ _ _ c.loop-k.invariant.1 (ap (ltb _) c.word.ensures) refl)
-
 pub returns : goal.returns
 unfolding exceeds
-returns c = below_all _ _ _ _ _ c.loop-k.invariant.1 c.loop-k.invariant.0 c.loop-k-test.false
+returns c =
+    any_from_yields_List (λ k. ltb c.args.most (word_of c.args.words.now (c.args.first + k))) _ _ _ c.any.ensures.ran
+    (YieldsList-from_range 0 c.args.count c.args.count refl (omega arith)) (λ x b q k. search (rules, tests))
+    ∙ any-range _ _
