@@ -3,14 +3,14 @@ use mathlib.Core.Path.{◌≡◌, refl, sym, ap, subst, ◌∙◌}
 use mathlib.Core.Bool.{Bool, true, false, cond}
 use mathlib.Core.List.{List, [], ◌∷◌, ◌++◌}
 use mathlib.Core.Option.{some, IsSome}
-use Prim.Native.Nat.{ℕ, ◌^◌, ◌+◌, ◌<◌}
+use Prim.Native.Nat.{ℕ, ◌^◌, ◌<◌}
 use native.Mathlib.Nat.{zero-add}
 use native.Mathlib.Omega.{arith}
 use lib.ListN.{length, get_or, length-append}
 use Rattle.chunk_names.specs.Name.{Name, ascii}
 use Rattle.chunk.specs.Chunk.{chunk}
 use Rattle.tree.specs.Tree.{bytes}
-use Rattle.tree.specs.Reader.{Walked, read, reports}
+use Rattle.tree.specs.Reader.{Walked, read}
 use Rattle.tree.specs.Value.{dsdiff}
 use Rattle.tree.specs.Gather.{Holds}
 use Rattle.tree.proofs.ReaderLaws.{walk-bytes}
@@ -94,7 +94,7 @@ module _ (b : AcceptedBuild) (fs : List Frame) (recorded : Recorded b.inputs fs)
   -- what a reader is told, where it is told one
   is-index : (dst : x.area.sound ≡ Dst) (has : Bool) (index : List ℕ) → index ∷ [] ≡ cond has (own.index b fs recorded dst ∷ []) [] → OwnEntries b fs index
   is-index dst true index e = let same : own.index b fs recorded dst ≡ index = cc in subst (λ (l : List ℕ). OwnEntries b fs l) same (own-entries dst)
-  is-index dst false index e = let z : ◌≡◌ {A = ℕ} 1 0 = ap length e in absurd (omega arith)
+  is-index dst false index e = absurd (cc e)
 
   index-told : x.area.sound ≡ Dst → (known : Name → Name → Bool) → Knows known x.area.sound → Known known (ascii "FRM8") (ascii "DSTI")
       → (w : Walked) → read (dsdiff known) (file_bytes b fs) ≡ some w
