@@ -30,7 +30,7 @@ low : (k f : ℕ) → f < 2 ^ 16 → (k * 2 ^ 16 + f) % 2 ^ 16 ≡ f
 low k f small = omega arith
 
 kind-back : (k : MarkerKind) → kind_of (kind_number k) ≡ k
-unfolding kind_of kind_number
+unfolding kind_of
 kind-back TrackStart = refl
 kind-back TrackStop = refl
 kind-back ProgramStart = refl

@@ -12,6 +12,7 @@ use lib.Dec.{lit≤}
 use lib.ListN.{length, take, drop, replicate, length-append, length-replicate, take-append-drop}
 use lib.Seq.{sets, sets-eq, drop-drop, paste, length-paste, take-paste, drop-paste, take_at}
 use Rattle.std.specs.Prelude.{Err}
+use Rattle.refusal.specs.declared.verdict.Refusal.TheVariants.{TooLarge}
 use Rattle.row_extents.specs.Extents.{too_large}
 use Rattle.rows.specs.declared.row.Row.TheVariants as row
 use Rattle.markers.specs.declared.marker.MarkerKind.TheVariants.{Index}
@@ -100,14 +101,14 @@ module _ (o : Options) (wanted : o.custom_markers ≡ true) (ms : List Marker) (
   unfolding any_too_large
   too_large_lem tracks comments callers = rw (wanted, too_many ms many) (simp or-true)
 
-  limit_refused : (pool raw tracks comments callers : List ℕ) → limit_faults o pool raw tracks (rows_of ms) comments callers ≡ Refused 1 0
+  limit_refused : (pool raw tracks comments callers : List ℕ) → limit_faults o pool raw tracks (rows_of ms) comments callers ≡ Err TooLarge
   unfolding limit_faults
   limit_refused pool raw tracks comments callers = rw (too_large_lem tracks comments callers)
 
-  given-refused : (pool raw tracks comments callers : List ℕ) → given_faults o pool raw tracks (rows_of ms) comments callers ≡ Refused 1 0
+  given-refused : (pool raw tracks comments callers : List ℕ) → given_faults o pool raw tracks (rows_of ms) comments callers ≡ Err TooLarge
   unfolding given_faults
   given-refused pool raw tracks comments callers = rw (limit_refused pool raw tracks comments callers)
 
-pub many-refused : (x : Inputs) (ms : List Marker) → x.options.custom_markers ≡ true → x.markers ≡ rows_of ms → 65_535 < length ms → verdict x ≡ Refused 1 0
+pub many-refused : (x : Inputs) (ms : List Marker) → x.options.custom_markers ≡ true → x.markers ≡ rows_of ms → 65_535 < length ms → verdict x ≡ Err TooLarge
 unfolding verdict
 many-refused x ms wanted are many = rw (are, given-refused x.options wanted ms many x.pool x.raw x.tracks x.comments x.callers)

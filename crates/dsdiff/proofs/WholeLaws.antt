@@ -1,5 +1,5 @@
 -- THE WHOLE FILE, from the promise of a build and nothing else. Assumes nothing.
-use mathlib.Core.Path.{◌≡◌, refl, sym}
+use mathlib.Core.Path.{◌≡◌, refl, sym, ap, ◌∙◌}
 use mathlib.Core.List.{List, ◌++◌}
 use Prim.Native.Nat.{ℕ, ◌-◌, ◌*◌, ◌<◌}
 use native.Mathlib.Omega.{arith}
@@ -25,7 +25,6 @@ use Rattle.file_tree.proofs.FileLaws.{length-header}
 use Rattle.accepted_file.proofs.AcceptedLaws.{accepted-file}
 use Rattle.accepted_file.proofs.IndexLaws.{index-leads}
 use Rattle.build_answer.specs.Answer.{Answer}
-use Rattle.build_answer.specs.declared.answer.Answer.TheVariants.{Built}
 use Rattle.assemble.specs.Build.{build_verdict, Outcome, Builds}
 
 -- a build that answers lengths was accepted, and its buffers begin with header and trailer
@@ -34,21 +33,30 @@ pub record Made (x : Inputs) (h' t' : List ℕ) (a c : ℕ) : Type 0 where
   pub header : take a h' ≡ header_of x
   pub trailer : take c t' ≡ trailer_of x
 
-pub made : (x : Inputs) (h t : List ℕ) {h' t' : List ℕ} {r : Answer} {a b c : ℕ} → Builds x h h' t t' r → r ≡ Built a b c → Made x h' t' a c
+-- the lengths that an answer tells
+abbrev header_by : Answer → ℕ
+header_by (Ok built) = built.header
+header_by (Err f) = 0
+
+abbrev trailer_by : Answer → ℕ
+trailer_by (Ok built) = built.trailer
+trailer_by (Err f) = 0
+
+pub made : (x : Inputs) (h t : List ℕ) {h' t' : List ℕ} {r : Answer} {a b c : ℕ} → Builds x h h' t t' r → r ≡ Ok (record { header = a; sound = b; trailer = c }) → Made x h' t' a c
 made x h t {h'} {t'} {r} {a} {b} {c} outcome e = by (build_verdict x h t) refl outcome
   where
     by : (v : Verdict) → build_verdict x h t ≡ v → Outcome x v h h' t t' r → Made x h' t' a c
     by (Ok tt) k o =
-        let n : a ≡ length (header_of x) = cc in
-        let m : c ≡ length (trailer_of x) = cc in
+        let n : a ≡ length (header_of x) = ap header_by (sym e ∙ o.answers) in
+        let m : c ≡ length (trailer_of x) = ap trailer_by (sym e ∙ o.answers) in
         record {
           ok = (or-accepted (verdict x) _ k).0;
           header = rw o.header (take_at (header_of x) _ a (sym n));
           trailer = rw o.trailer (take_at (trailer_of x) _ c (sym m));
         }
-    by (Refused n d) k o = let z : ◌≡◌ {A = ℕ} 0 1 = cc in absurd (omega arith)
+    by (Err f) k o = let z : ◌≡◌ {A = ℕ} 0 1 = cc in absurd (omega arith)
 
-module _ (x : Inputs) (h t : List ℕ) {h' t' : List ℕ} {r : Answer} {a b c : ℕ} (promise : Builds x h h' t t' r) (e : r ≡ Built a b c) where
+module _ (x : Inputs) (h t : List ℕ) {h' t' : List ℕ} {r : Answer} {a b c : ℕ} (promise : Builds x h h' t t' r) (e : r ≡ Ok (record { header = a; sound = b; trailer = c })) where
   -- THE BUFFERS of an accepted build are the two sides of the sound in the bytes of the file, for any frames of the given lengths
   pub whole : (fs : List Frame) → Fits x.area.sound x.area x.lengths fs
       → take a h' ++ sound_bytes x.area.sound x.options.dst_crc fs ++ take c t' ≡ bytes (file_of x fs)

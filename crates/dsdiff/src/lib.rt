@@ -14,6 +14,7 @@ ghost use Rattle.dsdiff.specs.Table.{no_rows, filled};
 use assemble::build::build_rows;
 use build_answer::answer::Answer;
 use build_options::inputs::{Inputs, Lent};
+use header_trailer::measure::orders;
 pub use marker::Marker;
 use marker::{MOST_MARKERS, Table, unpack};
 use refusal::verdict::Refusal;
@@ -50,6 +51,7 @@ fn build_table(
     if !inputs.options.custom_markers {
         return build_part(table, 0, inputs, header, trailer);
     }
+    orders(inputs);
     if MOST_MARKERS < n {
         return Err(Refusal::TooLarge);
     }
