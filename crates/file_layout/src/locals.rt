@@ -112,13 +112,7 @@ fn local_chunk(
 fn is_sound(name: LocalChunk) -> bool
     ensures { result ≡ is_sound name }
 {
-    match name {
-        LocalChunk::SoundData => true,
-        LocalChunk::Property
-        | LocalChunk::DstIndex
-        | LocalChunk::EditedMasterInfo
-        | LocalChunk::Comments => false,
-    }
+    matches!(name, LocalChunk::SoundData)
 }
 
 // Whether a name is on the side of the sound that is asked for: the sound was passed before it, or comes after it.
@@ -148,10 +142,10 @@ pub(crate) fn local_chunks(
 {
     let mut c = c;
     let mut passed = false; // whether the sound was met
-    for name in given_names(&inputs.local_order, inputs.local_count) {
-        let sound = is_sound(*name);
+    for &name in given_names(&inputs.local_order, inputs.local_count) {
+        let sound = is_sound(name);
         if on_side(behind, passed, sound) {
-            c = local_chunk(c, out, inputs, base, *name);
+            c = local_chunk(c, out, inputs, base, name);
         }
         passed |= sound;
     }
