@@ -1,6 +1,6 @@
 -- Markers that are lent as records, and their rows of four words. Assumes nothing.
 use Rattle.std.specs.Prelude.{ℕ, ◌+◌, ◌*◌, ◌^◌, Bool, cond}
-use mathlib.Core.List.{List, [], ◌∷◌, ◌++◌, flat_map}
+use mathlib.Core.List.{List, [], ◌∷◌, flat_map}
 use Rattle.markers.specs.Marker.{kind_number}
 use Rattle.dsdiff.specs.declared.marker.Marker.{Marker}
 

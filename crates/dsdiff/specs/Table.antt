@@ -1,6 +1,6 @@
 -- The table that markers are taken apart into: a row of four words for each, in the markers' order, for as many as it has rows.
 -- Only contracts of private functions cite these; no promise of a public function does. Assumes nothing.
-use Rattle.std.specs.Prelude.{ℕ, ◌+◌, ◌*◌, Bool, true, false, cond, List, [], ◌∷◌, ltb, set, get_or, replicate}
+use Rattle.std.specs.Prelude.{ℕ, ◌+◌, ◌*◌, cond, List, [], ◌∷◌, ltb, set, get_or, replicate}
 use Rattle.dsdiff.specs.declared.marker.Marker.{Marker}
 use Rattle.dsdiff.specs.Marker.{row_of}
 

@@ -7,7 +7,6 @@ use lib.ListN.{length, get_or, drop, drop_of_length-le}
 use lib.Seq.{drop-cons}
 use Rattle.dsdiff.specs.declared.marker.Marker.{Marker}
 use Rattle.dsdiff.specs.Table.{stored, filled}
-use Rattle.dsdiff.proofs.TableLaws.{no_marker}
 use Rattle.dsdiff.proofs.marker.unpack.Goals as goal
 
 -- one marker more is stored

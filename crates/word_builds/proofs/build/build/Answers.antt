@@ -1,14 +1,11 @@
--- `build::build` meets its contract. Assumes nothing.
+-- `build::build` meets its contract: a fault of the words refuses before anything is done. Assumes nothing.
 use mathlib.Core.Path.{refl}
+use Rattle.refusal.proofs.VerdictLaws.{handed-back}
 use Rattle.words.specs.Inputs.{inputs_of_words}
 use Rattle.word_builds.proofs.build.build.Goals as goal
 
-pub returns-in-Refused : goal.returns-in-Refused
+pub returns-in_err-words_fault : goal.returns-in_err-words_fault
 unfolding inputs_of_words
-returns-in-Refused c = rw (← c.words_fault-fault.ensures, c.in-Refused.is)
+returns-in_err-words_fault c =
+    rw (← c.words_fault.ensures, c.in_err-words_fault.was, handed-back c.from_residual.ensures.1)
     (record { orders = record { property = refl; info = refl; local = refl }; answers = refl; header = refl; trailer = refl })
-
-pub returns : goal.returns
-unfolding inputs_of_words
-returns c = let b = rw (c.word.ensures, c.local_order.ensures, c.info_order.ensures, c.property_order.ensures, c.options_of.ensures, c.area_of.ensures) at c.build_rows.ensures in
-    rw (← c.words_fault-fault.ensures, c.in-Accepted.is) b
