@@ -2,6 +2,7 @@
 use mathlib.Core.List.{List}
 use mathlib.Core.Bool.{Bool}
 use Prim.Native.Nat.{ℕ}
+use Rattle.std.specs.Prelude.{Option, None, Some}
 use Rattle.chunk_names.specs.Name.{Name}
 use Rattle.chunk_names.specs.declared.InfoChunk.{InfoChunk}
 use Rattle.chunk_names.specs.declared.LocalChunk.{LocalChunk}
@@ -11,6 +12,7 @@ use Rattle.texts.specs.declared.text.TextRule.{TextRule}
 use Rattle.rows.specs.declared.row.Row.TheVariants as row
 use Rattle.rows.specs.Row.{count_of_rows}
 use Rattle.rows.specs.Durations.{short_track, short_tracks}
+use Rattle.prop_fields.specs.declared.layout.ChannelNumbers.{ChannelNumbers}
 use Rattle.master_info.specs.declared.diin.Info.{Info}
 use Rattle.channel_rules.specs.ChannelNumbers.{number_fault, number_faults}
 use Rattle.faults.specs.Caller.{name_fault, caller_name, caller_faults}
@@ -26,14 +28,14 @@ use Rattle.rules.specs.Property.{numbers_fault, start_fault, property_faults}
 use Rattle.rules.specs.Info.{info_faults}
 use Rattle.area_rules.specs.Area.{area_fault, lengths_fault, range_fault, area_faults}
 use Rattle.area_rules.specs.Master.{source_fault, master_area_fault, master_tracks_fault, master_options_fault, edited_master_fault, track_faults}
-use Rattle.local_rules.specs.Local.{local_faults}
+use Rattle.local_rules.specs.Local.{order_faults, local_faults}
 use Rattle.checks.specs.InputVerdict.{given_faults, chunk_faults, verdict}
 use Rattle.read_rules.specs.declared.format.SoundFormat.{SoundFormat}
 use Rattle.read_rules.specs.Fault.{format_fault}
 use Rattle.file_read.specs.Read.{Request, read_verdict, lent_fault}
 use Rattle.assemble.specs.Build.{build_verdict, room_fault}
 use Rattle.refusal_numbers.specs.Numbers.{Within, Numbered}
-use Rattle.refusal_numbers.proofs.WithinLaws.{within_if, within-or, within-when, within_first}
+use Rattle.refusal_numbers.proofs.WithinLaws.{within_none, within_if, within-or, within-when, within_first}
 
 -- 1 to 3, 4 and 5
 limits : (o : Options) (pool raw tracks markers comments callers : List ℕ) → Within 1 41 (limit_faults o pool raw tracks markers comments callers)
@@ -70,9 +72,14 @@ numbers : (ns : List ℕ) → Within 1 41 (number_faults ns)
 unfolding number_faults
 numbers ns = within_first (number_fault ns) (λ k. search (within-or, within_if) depth 12) _
 
+given_numbers : (a : Area) (n : Option ChannelNumbers) → Within 1 41 (numbers_fault a n)
+unfolding numbers_fault
+given_numbers a None = within_none
+given_numbers a (Some n) = search (within-or, within_if, within-when, numbers) depth 16
+
 property : (a : Area) (o : Options) (s : Settings) (order : List PropertyChunk) → Within 1 41 (property_faults a o s order)
-unfolding property_faults numbers_fault start_fault
-property a o s order = search (within-or, within_if, within-when, numbers) depth 16
+unfolding property_faults start_fault
+property a o s order = search (within-or, within_if, given_numbers) depth 16
 
 -- 30 to 33, 34 to 36, 37 to 39
 marks : (markers raw : List ℕ) (rule : TextRule) (first end : ℕ) → Within 1 41 (marker_faults markers raw rule first end)
@@ -89,7 +96,7 @@ comments cs pool options channels = within_first (comment_fault cs pool options 
 
 locals : (pool raw ts markers cs : List ℕ) (order : List InfoChunk) (i : Info) (dsti : Bool) (local : List LocalChunk) (count : ℕ)
     → Within 1 41 (local_faults pool raw ts markers cs order i dsti local count)
-unfolding local_faults
+unfolding order_faults
 locals pool raw ts markers cs order i dsti local count = search (within-or, within_if) depth 12
 
 chunks : (a : Area) (o : Options) (s : Settings) (info_order : List InfoChunk) (local_order : List LocalChunk) (local_count : ℕ) (pool raw ts markers cs : List ℕ)

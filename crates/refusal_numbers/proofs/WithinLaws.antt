@@ -1,36 +1,33 @@
 -- Numbers of refusals, through the ways in which checks are joined. Assumes nothing.
-use mathlib.Core.Path.{◌≡◌}
+use mathlib.Core.Path.{◌≡◌, sym}
 use mathlib.Core.Bool.{Bool, true, false}
 use Prim.Native.Nat.{ℕ, zero, suc, ◌≤◌}
-use native.Mathlib.Omega.{arith}
 use lib.Dec.{leb}
 use borrow.Author.Tests.{leb-true}
-use Rattle.refusal.specs.Verdict.{or_else, refuse_if, when}
-use Rattle.refusal.specs.Below.{below, first_refused}
-use Rattle.refusal.specs.Verdict.{Verdict}
 use Rattle.std.specs.Prelude.{Ok, Err}
+use Rattle.refusal.specs.Verdict.{Verdict, number, or_else, refuse_if, when}
+use Rattle.refusal.specs.Below.{below, first_refused}
+use Rattle.refusal.specs.declared.verdict.Refusal.{Refusal}
+use Rattle.refusal.proofs.VerdictLaws.{not-accepted}
 use Rattle.refusal_numbers.specs.Numbers.{Within}
 
 module _ {low high : ℕ} where
   pub within_none : Within low high (Ok tt)
-  within_none = record {
-    least = λ n d e. let z : ◌≡◌ {A = ℕ} 0 1 = cc in absurd (omega arith);
-    most = λ n d e. let z : ◌≡◌ {A = ℕ} 0 1 = cc in absurd (omega arith);
+  within_none = record { least = λ r e. not-accepted (sym e); most = λ r e. not-accepted (sym e) }
+
+  pub within-one : (r : Refusal) → low ≤ number r → number r ≤ high → Within low high (Err r)
+  within-one r l m = record {
+    least = λ s e. let z : r ≡ s = cc in rw (← z) l;
+    most = λ s e. let z : r ≡ s = cc in rw (← z) m;
   }
 
-  pub within-one : (number detail : ℕ) → low ≤ number → number ≤ high → Within low high (Refused number detail)
-  within-one number detail l m = record {
-    least = λ n d e. let z : number ≡ n = cc in rw (← z) l;
-    most = λ n d e. let z : number ≡ n = cc in rw (← z) m;
-  }
-
-  pub within_if : (t : Bool) (number detail : ℕ) → leb low number ≡ true → leb number high ≡ true → Within low high (refuse_if t number detail)
-  within_if true number detail l m = within-one number detail (leb-true low number l) (leb-true number high m)
-  within_if false number detail l m = within_none
+  pub within_if : (t : Bool) (r : Refusal) → leb low (number r) ≡ true → leb (number r) high ≡ true → Within low high (refuse_if t r)
+  within_if true r l m = within-one r (leb-true low (number r) l) (leb-true (number r) high m)
+  within_if false r l m = within_none
 
   pub within-or : (v w : Verdict) → Within low high v → Within low high w → Within low high (or_else v w)
   within-or (Ok tt) w a b = b
-  within-or (Refused number detail) w a b = a
+  within-or (Err r) w a b = a
 
   pub within-when : (t : Bool) {v : Verdict} → Within low high v → Within low high (when t v)
   within-when true a = a

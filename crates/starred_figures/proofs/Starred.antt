@@ -15,10 +15,8 @@ use Rattle.dst.specs.Unit.{unit_size}
 use Rattle.dst.specs.Start.{sum, start}
 use Rattle.dst.specs.Head.{rate, frte, data_size, head}
 use Rattle.dst_index.specs.Index.{entry, joined, index, dsti}
-use Rattle.prop_fields.specs.Layout.{channel_count, six_names, channel_names, speaker_code}
-use Rattle.prop_fields.specs.Start.{is_given, start_frame}
-use Rattle.prop_fields.specs.Compression.{compression_data, cmpr_data}
-use Rattle.prop.specs.Property.{chnl_data, id_of, content_of, is_property_written, property_chunk, property}
+use Rattle.prop_fields.specs.Compression.{compression_data}
+use Rattle.prop.specs.Property.{chnl_data, property_chunk, property}
 use Rattle.master_info.specs.Diin.{has_diin, diin}
 use Rattle.refusal.specs.Below.{below}
 use Rattle.refusal.specs.Orders.{times, each_once}
@@ -33,7 +31,7 @@ use Rattle.area_rules.specs.Area.{area_fault, lengths_fault, range_fault, area_f
 use Rattle.area_rules.specs.Master.{source_fault, edited_master_fault, track_faults}
 use Rattle.rules.specs.Property.{numbers_fault, start_fault, property_faults}
 use Rattle.rules.specs.Info.{info_faults}
-use Rattle.local_rules.specs.Local.{lacks_any, local_faults}
+use Rattle.local_rules.specs.Local.{lacks_any, order_faults}
 use Rattle.checks.specs.InputVerdict.{given_faults, chunk_faults, verdict}
 use Rattle.file_tree.specs.Sound.{sound_size, sound_head}
 use Rattle.caller_chunks.specs.Caller.{caller_chunks}
@@ -42,7 +40,7 @@ use Rattle.file_tree.specs.File.{place, header_of, trailer_of}
 use Rattle.starred_figures.specs.StarredFigures.{StarredFigures}
 
 pub starred : StarredFigures
-unfolding flat_map be num pad chunk counts occupied first_rows rows time_of bytes join each bit bits byte_of bytes_of crc_of part printable written_comments has_comt comt frame_bytes unit_size sum start rate frte data_size head entry joined index dsti channel_count six_names channel_names speaker_code is_given start_frame compression_data cmpr_data chnl_data id_of content_of is_property_written property_chunk property has_diin diin below times each_once lengths_wrong too_large outside_pool has_no_scalar no_scalars caller_faults comment_faults defaults effective any_too_large any_outside any_no_scalar limit_faults area_fault lengths_fault range_fault area_faults source_fault edited_master_fault track_faults numbers_fault start_fault property_faults info_faults lacks_any local_faults given_faults chunk_faults verdict sound_size sound_head caller_chunks before behind local_bytes front back place header_of trailer_of
+unfolding flat_map be num pad chunk counts occupied first_rows rows time_of bytes join each bit bits byte_of bytes_of crc_of part printable written_comments has_comt comt frame_bytes unit_size sum start rate frte data_size head entry joined index dsti compression_data chnl_data property_chunk property has_diin diin below times each_once lengths_wrong too_large outside_pool has_no_scalar no_scalars caller_faults comment_faults defaults effective any_too_large any_outside any_no_scalar limit_faults area_fault lengths_fault range_fault area_faults source_fault edited_master_fault track_faults numbers_fault start_fault property_faults info_faults lacks_any order_faults given_faults chunk_faults verdict sound_size sound_head caller_chunks before behind local_bytes front back place header_of trailer_of
 starred = record {
   dsd_prop = refl;
   dsd-header = refl;

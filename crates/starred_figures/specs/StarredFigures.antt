@@ -1,5 +1,5 @@
 -- THE STARRED FIGURES of document 01, as one table over the definitions. Assumes nothing.
-use Rattle.std.specs.Prelude.{◌≡◌, Bool, true, false, List, [], ◌∷◌, ◌++◌, ℕ, ◌+◌, ◌*◌, length, take, drop, set}
+use Rattle.std.specs.Prelude.{◌≡◌, Bool, true, false, List, [], ◌∷◌, ◌++◌, ℕ, ◌+◌, ◌*◌, length, take, drop, set, None, Some, Ok, Err}
 use Rattle.chunk.specs.Number.{num}
 use Rattle.chunk_names.specs.Name.{ascii, property_order, info_order, local_order}
 use Rattle.frame_time.specs.Time.{time_of}
@@ -15,8 +15,7 @@ use Rattle.prop_fields.specs.declared.compression.Sound.{Sound}
 use Rattle.prop_fields.specs.declared.compression.Sound.TheVariants.{Dsd, Dst}
 use Rattle.prop_fields.specs.declared.layout.Layout.TheVariants.{Stereo}
 use Rattle.prop_fields.specs.Start.{Start}
-use Rattle.std.specs.Prelude.{None, Some}
-use Rattle.std.specs.Prelude.{Ok, Err}
+use Rattle.refusal.specs.declared.verdict.Refusal.TheVariants as refused
 use Rattle.build_options.specs.declared.options.Options.{Options}
 use Rattle.build_options.specs.Options.{defaults}
 use Rattle.build_options.specs.Inputs.{Inputs}
@@ -133,7 +132,7 @@ pub record StarredFigures : Type 0 where
   -- "Frame 6,479,999 is 23:59:59, 2,784,768 samples; start 6,479,998 with 1 position passes, 6,479,999 is 29"
   pub last_time : time_of 6_479_999 ≡ record { hours = 23; minutes = 59; seconds = 59; samples = 2_784_768 }
   pub start-passes : verdict (dsd-from 6_479_998) ≡ Ok tt
-  pub start-is-29 : verdict (dsd-from 6_479_999) ≡ Refused 29 0
+  pub start-is-29 : verdict (dsd-from 6_479_999) ≡ Err refused.Start
   -- "CRC of byte 1 is 0x80000011; of nothing, 0"
   pub crc-one : crc_of (1 ∷ []) ≡ 0x8000_0011
   pub crc-none : crc_of [] ≡ 0
