@@ -1,8 +1,7 @@
 -- Stamps as words, and what the exported window answers and leaves in what it is lent. Assumes nothing.
 use Rattle.std.specs.Prelude.{◌≡◌, List, [], ◌∷◌, ℕ, get_or}
 use Rattle.calendar.specs.declared.date.Stamp.{Stamp}
-use Rattle.calendar.specs.declared.window.Falls.{Falls}
-use Rattle.calendar.specs.Window.{falls_number, falls_value}
+use Rattle.calendar.specs.Window.{Falls, falls_number, falls_value}
 
 -- the stamp of five words
 unfoldable pub stamp_of_words : List ℕ → Stamp

@@ -12,6 +12,7 @@ use calendar::order::earlier;
 use calendar::window::{falls_in, falls_value};
 use refusal::verdict::number_of;
 
+#[tactic(auto, unfolding(crate::specs::Dates::stamp_of_words))]
 fn stamp(words: [u32; 5]) -> Stamp
     ensures { result ≡ stamp_of_words words }
 {

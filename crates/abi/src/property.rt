@@ -1,4 +1,5 @@
 // PROP. What is written into `out` is what fits of it; the answer is the length of all of it.
+ghost use Rattle.std.specs.Prelude.{cond, Some, None};
 ghost use Rattle.chunk.specs.Append.{Appended};
 ghost use Rattle.tree.specs.Tree.{bytes};
 ghost use Rattle.prop.specs.Property.{property};

@@ -13,7 +13,11 @@ ghost use Rattle.meanings.specs.Sound.{offset_of};
 ghost use Rattle.abi.specs.Sound.{Count};
 ghost use Rattle.abi.specs.Steps.{count_of};
 
+use checksum::crc::crc;
 use chunk::Cursor;
+use dst::head::head;
+use dst_index::index::index;
+use meanings::sound::offset;
 use window::window::Window;
 
 // How many bytes a read filled.
@@ -30,7 +34,7 @@ fn count(fill: Option<Window>) -> usize
 pub extern "C" fn jangqeruz_crc(content: &[u8]) -> u32
     ensures { result ≡ crc_of content.now }
 {
-    checksum::crc::crc(content)
+    crc(content)
 }
 
 // The DST chunk's header and FRTE. What is written into `out` is what fits of it; the answer is the length of all of it.
@@ -38,9 +42,7 @@ pub extern "C" fn jangqeruz_crc(content: &[u8]) -> u32
 pub extern "C" fn jangqeruz_dst_head(out: &mut [u8], crc: bool, lengths: &[u32]) -> usize
     ensures { Appended out.old 0 (head crc lengths.now) out.new result }
 {
-    let c = Cursor::new();
-    let end = dst::head::head(c, out, crc, lengths);
-    end.at
+    head(Cursor::new(), out, crc, lengths).at
 }
 
 // The data of DSTI, likewise, where the first unit starts at `base`.
@@ -54,16 +56,7 @@ pub extern "C" fn jangqeruz_dst_index(
 ) -> usize
     ensures { Appended out.old 0 (index crc (moved base (shift_of (offset_of frame_data))) lengths.now) out.new result }
 {
-    let c = Cursor::new();
-    let end = dst_index::index::index(
-        c,
-        out,
-        crc,
-        meanings::sound::offset(frame_data),
-        base,
-        lengths,
-    );
-    end.at
+    index(Cursor::new(), out, crc, offset(frame_data), base, lengths).at
 }
 
 // The needed positions: the first, and one past the last.

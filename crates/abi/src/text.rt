@@ -7,7 +7,11 @@ ghost use Rattle.comt.specs.Comment.{comt};
 ghost use Rattle.meanings.specs.Text.{rule_of, options_of, text_of};
 
 use chunk::Cursor;
+use comt::comt::comt;
+use diin_texts::diin_text::diin_text;
+use meanings::text::{options, rule, text};
 use texts::extent::Extent;
+use texts::text::text_bytes;
 
 // A text's bytes.
 #[unsafe(no_mangle)]
@@ -21,18 +25,8 @@ pub extern "C" fn jangqeruz_text_bytes(
 ) -> usize
     ensures { Appended out.old 0 (text_bytes (rule_of rule_number replacement) (part pool.now (record { start = start; length = length }))) out.new result }
 {
-    let c = Cursor::new();
-    let end = texts::text::text_bytes(
-        c,
-        out,
-        meanings::text::rule(rule_number, replacement),
-        pool,
-        Extent {
-            start: start,
-            length: length,
-        },
-    );
-    end.at
+    let rule = rule(rule_number, replacement);
+    text_bytes(Cursor::new(), out, rule, pool, Extent { start, length }).at
 }
 
 // DIAR or DITI, by its name.
@@ -54,17 +48,9 @@ pub extern "C" fn jangqeruz_diin_text(
         (options_of rule_number replacement empty_text text_pad_counted))
         out.new result }
 {
-    let options = meanings::text::options(rule_number, replacement, empty_text, text_pad_counted);
-    let c = Cursor::new();
-    let end = diin_texts::diin_text::diin_text(
-        c,
-        out,
-        *id,
-        pool,
-        meanings::text::text(given, start, length),
-        options,
-    );
-    end.at
+    let options = options(rule_number, replacement, empty_text, text_pad_counted);
+    let text = text(given, start, length);
+    diin_text(Cursor::new(), out, *id, pool, text, options).at
 }
 
 // COMT, of rows of nine words.
@@ -83,8 +69,6 @@ pub extern "C" fn jangqeruz_comt(
         (options_of rule_number replacement empty_text text_pad_counted))
         out.new result }
 {
-    let options = meanings::text::options(rule_number, replacement, empty_text, text_pad_counted);
-    let c = Cursor::new();
-    let end = comt::comt::comt(c, out, pool, rows, options);
-    end.at
+    let options = options(rule_number, replacement, empty_text, text_pad_counted);
+    comt(Cursor::new(), out, pool, rows, options).at
 }

@@ -1,4 +1,5 @@
 // property.rt of abi, for C.
+ghost use Rattle.std.specs.Prelude.{cond, Some, None};
 ghost use Rattle.chunk.specs.Append.{Appended};
 ghost use Rattle.tree.specs.Tree.{bytes};
 ghost use Rattle.prop.specs.Property.{property};
@@ -25,7 +26,7 @@ pub extern "C" fn jangqeruz_property(
           sound = sound_of dst;
           layout = layout_of layout_number;
           channels = channels;
-          numbers = record { given = numbers_given; count = numbers_count; numbers = numbers.now };
+          numbers = cond numbers_given (Some (record { count = numbers_count; numbers = numbers.now })) None;
           start = start_of start_given start_frame;
           loudspeaker_configuration = loudspeaker_configuration;
           unspecified_loudspeaker_configuration = unspecified_loudspeaker_configuration;

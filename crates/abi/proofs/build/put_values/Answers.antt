@@ -1,10 +1,11 @@
 -- `build::put_values` meets its contract. Assumes nothing.
-use mathlib.Core.Path.{ap, ◌∙◌}
-use Rattle.chunk.specs.Append.{overlay}
-use Rattle.refusal.proofs.Listed.{by_elements}
+use mathlib.Core.Path.{refl}
+use native.Mathlib.Omega.{arith}
+use borrow.Author.Rules.{rules}
+use Rattle.chunk.proofs.AppendLaws.{copied}
 use Rattle.abi.proofs.build.put_values.Goals as goal
 
 pub returns : goal.returns
-unfolding overlay
-returns c = rw (c.put-2.ensures, c.put.ensures) at c.put-3.ensures
-    ∙ ap (overlay c.args.out.now 0) (by_elements 0 3 c.args.values c.well_formed.1.0.1.0.1)
+returns c =
+    (copied c.min-n.result c.min-n.result {part = c.copy_from_slice.new.self} {a = 0} {b = 3} {p = 0} (search rules) (omega arith) (search rules) refl
+    c.copy_from_slice.ensures.after (search rules) (search rules)).buffer
