@@ -90,7 +90,7 @@ in_header = record { request = dsd_request 0 []; room = 41; answer = Ok 41 }
 abbrev pub header_and_sound : WorkedRead
 header_and_sound = record { request = dsd_request 41 sound_content; room = 4_995; answer = Ok 4_995 }
 
--- no content is lent where the frame is needed
+-- no content is lent where the frame is needed: 43
 abbrev pub without_content : WorkedRead
 without_content = record { request = dsd_request 331 []; room = 2; answer = Err NotLent }
 

@@ -35,7 +35,7 @@ dst_request channels offset lent codes contents = record {
 abbrev pub front_read : WorkedRead
 front_read = record { request = dst_request 2 0 (3 ∷ []) first_frame.code first_frame.content; room = 160; answer = Ok 160 }
 
--- nothing is lent where a frame is needed
+-- nothing is lent where a frame is needed: 43
 abbrev pub unlent_read : WorkedRead
 unlent_read = record { request = dst_request 2 160 [] [] []; room = 10; answer = Err NotLent }
 
@@ -55,7 +55,7 @@ end_read = record { request = dst_request 2 220 (4 ∷ []) second_frame.code sec
 abbrev pub past_read : WorkedRead
 past_read = record { request = dst_request 2 (2 ^ 64 - 1) [] [] []; room = 4; answer = Ok 0 }
 
--- seven channels
+-- seven channels: 42
 abbrev pub seven_read : WorkedRead
 seven_read = record { request = dst_request 7 0 [] [] []; room = 4; answer = Err Format }
 
