@@ -7,16 +7,16 @@ use native.Mathlib.Nat.{zero-add}
 use native.Mathlib.Omega.{arith}
 use lib.ListN.{length, take, drop, length-replicate, take-append-drop}
 use lib.Seq.{take_all, length-take-le}
+use Rattle.std.specs.Prelude.{Ok, Err}
 use Rattle.chunk.specs.Append.{overlay}
 use Rattle.chunk.proofs.AppendLaws.{length-overlay, overlay-out, overlay-append, overlay-room}
 use Rattle.tree.specs.Gather.{Read, refused, accepted, window, covered}
 use Rattle.dst.specs.Frame.{Frame}
 use Rattle.refusal.specs.Verdict.{Verdict}
-use Rattle.refusal.specs.declared.verdict.Verdict.TheVariants as verdict
+use Rattle.refusal.specs.declared.verdict.Refusal.{Refusal}
 use Rattle.window.specs.Window.{shown}
 use Rattle.window.proofs.TestLaws.{lt-or-le}
 use Rattle.read_answer.specs.Answer.{ReadAnswer}
-use Rattle.read_answer.specs.declared.answer.ReadAnswer.TheVariants.{Filled, Refused}
 use Rattle.file_read.specs.Read.{Request, read_verdict, file_with, Reading, Reads}
 use Rattle.old_readers.specs.Premises.{AcceptedBuild, Call, WasGiven, IfAccepted, AllGiven, read_by, reads_of}
 use Rattle.worked_reads.specs.Instance.{WorkedRead, blank, holding_by}
@@ -44,15 +44,15 @@ under q out last r e = subst (λ (v : Verdict). Reading v q out last r) (sym e)
 module _ (b : AcceptedBuild) (fs : List Frame) (file : List ℕ) where
   -- what is computed of a read that is accepted: the verdict, how many bytes it fills, that the file that it knows of has there what the file has, and what it was given
   pub record Accepts (q : Request) (room count : ℕ) : Type 0 where
-    pub taken : read_verdict q room ≡ verdict.Accepted
+    pub taken : read_verdict q room ≡ Ok tt
     pub many : count ≡ min room (length (file_with q room) - q.offset)
     pub shows : window (file_with q room) q.offset room ≡ window file q.offset room
     pub given : WasGiven b fs q room
 
   -- of a read with this answer; of a refused one the verdict
   abbrev pub Computes : Request → ℕ → ReadAnswer → Type 0
-  Computes q room (Filled count) = Accepts q room count
-  Computes q room (Refused number detail) = read_verdict q room ≡ verdict.Refused number detail
+  Computes q room (Ok count) = Accepts q room count
+  Computes q room (Err refusal) = read_verdict q room ≡ Err refusal
 
   -- of each of a list
   abbrev pub AllCompute : List WorkedRead → Type 0
@@ -61,29 +61,29 @@ module _ (b : AcceptedBuild) (fs : List Frame) (file : List ℕ) where
 
   -- its promise, with any buffer of its length
   fills : (q : Request) (out : List ℕ) (room count : ℕ) → length out ≡ room → Accepts q room count
-      → Reads q out (window file q.offset room ++ drop (length (window file q.offset room)) out) (Filled count)
+      → Reads q out (window file q.offset room ++ drop (length (window file q.offset room)) out) (Ok count)
   unfolding shown window
   fills q out room count e =
       subst
-      (λ (n : ℕ). Accepts q n count → Reads q out (window file q.offset n ++ drop (length (window file q.offset n)) out) (Filled count)) e
+      (λ (n : ℕ). Accepts q n count → Reads q out (window file q.offset n ++ drop (length (window file q.offset n)) out) (Ok count)) e
       (λ a.
-      under q out _ (Filled count) a.taken
+      under q out _ (Ok count) a.taken
       (record {
-        answer = ap Filled a.many;
+        answer = ap Ok a.many;
         buffer =
             ap (λ (s : List ℕ). s ++ drop (length s) out) (sym a.shows)
             ∙ sym (overlay-front out (drop q.offset (file_with q (length out))));
       }))
 
-  refuses : (q : Request) (out : List ℕ) (room number detail : ℕ) → length out ≡ room → read_verdict q room ≡ verdict.Refused number detail
-      → Reads q out out (Refused number detail)
-  refuses q out room number detail e =
-      subst (λ (n : ℕ). read_verdict q n ≡ verdict.Refused number detail → Reads q out out (Refused number detail)) e
-      (λ v. under q out out (Refused number detail) v (record { answer = refl; buffer = refl }))
+  refuses : (q : Request) (out : List ℕ) (room : ℕ) (refusal : Refusal) → length out ≡ room → read_verdict q room ≡ Err refusal
+      → Reads q out out (Err refusal)
+  refuses q out room refusal e =
+      subst (λ (n : ℕ). read_verdict q n ≡ Err refusal → Reads q out out (Err refusal)) e
+      (λ v. under q out out (Err refusal) v (record { answer = refl; buffer = refl }))
 
   pub promised : (q : Request) (room : ℕ) (r : ReadAnswer) → Computes q room r → Reads q (blank room) (holding_by r file q.offset room) r
-  promised q room (Filled count) c = fills q (blank room) room count (length-replicate room 170) c
-  promised q room (Refused number detail) c = refuses q (blank room) room number detail (length-replicate room 170) c
+  promised q room (Ok count) c = fills q (blank room) room count (length-replicate room 170) c
+  promised q room (Err refusal) c = refuses q (blank room) room refusal (length-replicate room 170) c
 
   -- the calls
   abbrev call_of : (r : WorkedRead) → Computes r.request r.room r.answer → Call
@@ -109,8 +109,8 @@ module _ (b : AcceptedBuild) (fs : List Frame) (file : List ℕ) where
 
   -- the accepted ones were given what is computed
   one-given : (q : Request) (room : ℕ) (r : ReadAnswer) → Computes q room r → IfAccepted b fs q (length (blank room)) r
-  one-given q room (Filled count) c = rw (length-replicate {A = ℕ} room 170) c.given
-  one-given q room (Refused number detail) c = tt
+  one-given q room (Ok count) c = rw (length-replicate {A = ℕ} room 170) c.given
+  one-given q room (Err refusal) c = tt
 
   pub all_given : (rs : List WorkedRead) (cs : AllCompute rs) → AllGiven b fs (calls_of rs cs)
   unfolding calls_of
@@ -119,8 +119,8 @@ module _ (b : AcceptedBuild) (fs : List Frame) (file : List ℕ) where
 
 -- the places that reads cover, by offsets and rooms alone
 abbrev pub places_by : ℕ → ℕ → ReadAnswer → Read
-places_by offset room (Filled count) = accepted offset room []
-places_by offset room (Refused number detail) = refused
+places_by offset room (Ok count) = accepted offset room []
+places_by offset room (Err refusal) = refused
 
 abbrev pub places_of : List WorkedRead → List Read
 places_of rs = map (λ (r : WorkedRead). places_by r.request.offset r.room r.answer) rs
@@ -128,8 +128,8 @@ places_of rs = map (λ (r : WorkedRead). places_by r.request.offset r.room r.ans
 one_covers : (offset room : ℕ) (last : List ℕ) (r : ReadAnswer) (p : ℕ) (reads places : List Read) → covered reads p ≡ covered places p
     → covered (read_by offset (blank room) last r ∷ reads) p ≡ covered (places_by offset room r ∷ places) p
 unfolding covered
-one_covers offset room last (Filled count) p reads places e = rw (length-replicate {A = ℕ} room 170, e)
-one_covers offset room last (Refused number detail) p reads places e = e
+one_covers offset room last (Ok count) p reads places e = rw (length-replicate {A = ℕ} room 170, e)
+one_covers offset room last (Err refusal) p reads places e = e
 
 pub all_cover : (b : AcceptedBuild) (fs : List Frame) (file : List ℕ) (rs : List WorkedRead) (cs : AllCompute b fs file rs) (p : ℕ)
     → covered (reads_of (calls_of b fs file rs cs)) p ≡ covered (places_of rs) p

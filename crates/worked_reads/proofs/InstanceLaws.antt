@@ -7,6 +7,7 @@ use Prim.Native.Nat.{ℕ, zero, suc, ◌+◌, ◌<◌}
 use native.Mathlib.Nat.{not-suc-le-zero, le_of_suc-le-suc}
 use borrow.Author.Tests.{not-false}
 use lib.ListN.{length, get_elem?}
+use Rattle.std.specs.Prelude.{Ok}
 use Rattle.tree.specs.Reader.{read}
 use Rattle.tree.specs.Value.{dsdiff}
 use Rattle.tree.specs.Gather.{covered, Holds}
@@ -14,7 +15,6 @@ use Rattle.dst.specs.Frame.{Frame}
 use Rattle.refusal.specs.Below.{any}
 use Rattle.refusal.proofs.VerdictLaws.{none_so}
 use Rattle.file_tree.specs.File.{trailer_of}
-use Rattle.build_answer.specs.declared.answer.Answer.TheVariants.{Built}
 use Rattle.assemble.specs.Build.{Builds}
 use Rattle.dsdiff.proofs.WholeLaws.{whole}
 use Rattle.old_readers.specs.Premises.{AcceptedBuild, Call, Recorded, AllGiven, reads_of}
@@ -38,7 +38,7 @@ module _ (w : Instance) where
   abbrev pub BuiltAs : Type 0
   BuiltAs =
       Builds w.inputs (blank (w.header_length + 2)) (header_with_spare w.inputs) (blank w.trailer_length) (trailer_of w.inputs)
-      (Built w.header_length w.sound_length w.trailer_length)
+      (Ok (record { header = w.header_length; sound = w.sound_length; trailer = w.trailer_length }))
 
   abbrev pub build_of : BuiltAs → AcceptedBuild
   build_of promise = record {

@@ -21,15 +21,12 @@ use Rattle.dst_index.specs.Index.{entry, joined, index, dsti}
 use Rattle.sound_reads.specs.Place.{first_where}
 use Rattle.sound_reads.specs.Positions.{touched, past_last, range, positions_for}
 use Rattle.sound_reads.specs.Lent.{is_lent, lent_frames, zero_frame, frames_with, contents_with}
-use Rattle.prop_fields.specs.Layout.{channel_count, six_names, channel_names, speaker_code}
-use Rattle.prop_fields.specs.Start.{is_given, start_frame}
-use Rattle.prop_fields.specs.Compression.{compression_data, cmpr_data}
-use Rattle.prop.specs.Property.{chnl_data, id_of, content_of, is_property_written, property_chunk, property}
-use Rattle.diin_texts.specs.DiinText.{diin_text_data, given_text_chunk, diin_text_chunk}
-use Rattle.markers.specs.Marker.{kind_number, kind_flags, marker_text, frame_of, mark_head, mark_data, mark}
+use Rattle.prop_fields.specs.Compression.{compression_data}
+use Rattle.prop.specs.Property.{chnl_data, property_chunk, property}
+use Rattle.diin_texts.specs.DiinText.{diin_text_data, given_text_chunk}
+use Rattle.markers.specs.Marker.{mark_head, mark_data, mark}
 use Rattle.markers.specs.Custom.{kind_of, custom_of, customs}
-use Rattle.master_info.specs.Pick.{pick}
-use Rattle.master_info.specs.Diin.{markers_of, chosen, emid, info_chunk, has_diin, diin}
+use Rattle.master_info.specs.Diin.{markers_of, has_diin, diin}
 use Rattle.refusal.specs.Below.{below}
 use Rattle.refusal.specs.Orders.{times, each_once}
 use Rattle.rows.specs.Lengths.{lengths_wrong}
@@ -45,7 +42,7 @@ use Rattle.area_rules.specs.Area.{area_fault, lengths_fault, range_fault, area_f
 use Rattle.area_rules.specs.Master.{source_fault, edited_master_fault, track_faults}
 use Rattle.rules.specs.Property.{numbers_fault, start_fault, property_faults}
 use Rattle.rules.specs.Info.{info_faults}
-use Rattle.local_rules.specs.Local.{lacks_any, local_faults}
+use Rattle.local_rules.specs.Local.{lacks_any, order_faults}
 use Rattle.room_rules.specs.Room.{room_faults}
 use Rattle.checks.specs.InputVerdict.{given_faults, chunk_faults, verdict}
 use Rattle.file_tree.specs.Sound.{sound_bytes, sound_chunk, sound_size, sound_head}
@@ -67,17 +64,17 @@ text-definitions = tt
 
 -- PROP
 unfoldable pub property-definitions : Unit {0}
-unfolding channel_count six_names channel_names speaker_code is_given start_frame compression_data cmpr_data chnl_data id_of content_of is_property_written property_chunk property
+unfolding compression_data chnl_data property_chunk property
 property-definitions = tt
 
 -- markers
 unfoldable pub marker-definitions : Unit {0}
-unfolding time_of time_bytes kind_number kind_flags marker_text frame_of mark_head mark_data mark kind_of custom_of customs markers_of
+unfolding time_of time_bytes mark_head mark_data mark kind_of custom_of customs markers_of
 marker-definitions = tt
 
 -- DIIN
 unfoldable pub info-definitions : Unit {0}
-unfolding marker-definitions diin_text_data given_text_chunk diin_text_chunk pick chosen emid info_chunk has_diin diin
+unfolding marker-definitions diin_text_data given_text_chunk has_diin diin
 info-definitions = tt
 
 -- the sound and its index
@@ -97,7 +94,7 @@ limit_definitions = tt
 
 -- the others
 unfoldable pub rule-definitions : Unit {0}
-unfolding area_fault lengths_fault range_fault area_faults source_fault edited_master_fault track_faults numbers_fault start_fault property_faults info_faults lacks_any local_faults room_faults given_faults chunk_faults verdict
+unfolding area_fault lengths_fault range_fault area_faults source_fault edited_master_fault track_faults numbers_fault start_fault property_faults info_faults lacks_any order_faults room_faults given_faults chunk_faults verdict
 rule-definitions = tt
 
 -- reads

@@ -7,44 +7,9 @@ use Rattle.worked_reads.proofs.InstanceLaws.{Computed, worked_build, worked_call
 pub computed : Computed dst_instance
 unfolding definitions
 computed = record {
-  built = record { orders = record { property = refl; info = refl; local = refl }; answers = refl; header = refl; trailer = refl };
-  recorded = record { fits = refl; plain = (refl, (refl, tt)) };
-  reads = (
-    record {
-      taken = refl;
-      many = refl;
-      shows = refl;
-      given = record { kind = refl; crc = refl; channels = refl; lengths = refl; header = refl; trailer = refl; frames = (refl, refl) };
-    },
-    (
-      refl,
-      (
-        record {
-          taken = refl;
-          many = refl;
-          shows = refl;
-          given = record { kind = refl; crc = refl; channels = refl; lengths = refl; header = refl; trailer = refl; frames = (refl, refl) };
-        },
-        (
-          record {
-            taken = refl;
-            many = refl;
-            shows = refl;
-            given = record { kind = refl; crc = refl; channels = refl; lengths = refl; header = refl; trailer = refl; frames = (refl, refl) };
-          },
-          (
-            record {
-              taken = refl;
-              many = refl;
-              shows = refl;
-              given = record { kind = refl; crc = refl; channels = refl; lengths = refl; header = refl; trailer = refl; frames = (refl, refl) };
-            },
-            (refl, tt),
-          ),
-        ),
-      ),
-    ),
-  );
+  built = search;
+  recorded = search;
+  reads = search;
   none_missed = refl;
   required_names_lem = refl;
   all_names_lem = refl;

@@ -1,6 +1,6 @@
 -- A WORKED INSTANCE of demand 3: a build and a list of reads, spelled out, and two readers, one that knows only the names that it is to know and one that knows all, with what each
 -- of them gets. Assumes nothing.
-use Rattle.std.specs.Prelude.{◌≡◌, Bool, true, List, [], ◌∷◌, ◌++◌, map, ℕ, length, drop, replicate}
+use Rattle.std.specs.Prelude.{◌≡◌, Bool, true, List, [], ◌∷◌, ◌++◌, map, ℕ, length, drop, replicate, Ok, Err}
 use Rattle.std.proofs.Math.Option.{some}
 use Prim.Native.String as String
 use Rattle.chunk_names.specs.Name.{Name, ascii, among}
@@ -12,7 +12,6 @@ use Rattle.dst.specs.Frame.{Frame}
 use Rattle.build_options.specs.Inputs.{Inputs}
 use Rattle.file_tree.specs.File.{header_of, trailer_of, file_of}
 use Rattle.read_answer.specs.Answer.{ReadAnswer}
-use Rattle.read_answer.specs.declared.answer.ReadAnswer.TheVariants.{Filled, Refused}
 use Rattle.file_read.specs.Read.{Request}
 use Rattle.old_readers.specs.Premises.{AcceptedBuild, Call, Recorded, AllGiven}
 use Rattle.old_readers.specs.OldReaders.{gathered, OldReaders}
@@ -52,8 +51,8 @@ holding file offset room = window file offset room ++ drop (length (window file 
 
 -- after a read with this answer: a refused one leaves it as it was
 abbrev pub holding_by : ReadAnswer → List ℕ → ℕ → ℕ → List ℕ
-holding_by (Filled count) file offset room = holding file offset room
-holding_by (Refused number detail) file offset room = blank room
+holding_by (Ok count) file offset room = holding file offset room
+holding_by (Err r) file offset room = blank room
 
 -- the two readers: one knows the names that it is to know, each written behind its parent's, with those of the sound; the other all
 abbrev pub required_names : List String.String → Name → Name → Bool

@@ -1,18 +1,16 @@
 -- A SECOND WORKED INSTANCE of demand 3: one position of stereo DSD, with markers, artist, title, comments and a chunk of the caller's, most with an odd number of bytes, and pads
 -- counted; and six reads of it, of which one is refused. Assumes nothing.
-use Rattle.std.specs.Prelude.{true, false, List, [], ◌∷◌, ◌++◌, ℕ, ◌+◌, ◌*◌, replicate}
+use Rattle.std.specs.Prelude.{true, false, List, [], ◌∷◌, ◌++◌, ℕ, ◌+◌, ◌*◌, replicate, Some, Ok, Err}
 use Rattle.chunk.specs.Number.{num}
 use Rattle.chunk_names.specs.Name.{ascii, property_order, info_order, local_order}
 use Rattle.tree.specs.Reader.{Report}
-use Rattle.std.specs.Prelude.{Some}
 use Rattle.prop_fields.specs.declared.compression.Sound.TheVariants.{Dsd}
 use Rattle.prop_fields.specs.declared.layout.Layout.TheVariants.{Stereo}
 use Rattle.build_options.specs.declared.options.Options.{Options}
-use Rattle.build_options.specs.declared.options.Switch.TheVariants.{On}
 use Rattle.build_options.specs.Options.{defaults}
 use Rattle.build_options.specs.Inputs.{Inputs}
 use Rattle.file_tree.specs.File.{header_of, trailer_of}
-use Rattle.read_answer.specs.declared.answer.ReadAnswer.TheVariants.{Filled, Refused}
+use Rattle.refusal.specs.declared.verdict.Refusal.TheVariants.{NotLent}
 use Rattle.file_read.specs.Read.{Request}
 use Rattle.old_readers.specs.Premises.{AcceptedBuild, Call}
 use Rattle.worked_reads.specs.Instance.{WorkedRead, Instance, Worked, report_of, stereo_reports}
@@ -37,9 +35,9 @@ tagged_options = record {
   clipped_program = defaults.clipped_program;
   marker_titles = defaults.marker_titles;
   text_pad_counted = true;
-  artist_title = On;
+  artist_title = Some true;
   artist_title_source = defaults.artist_title_source;
-  album = record { artist = Given (record { start = 0; length = 3 }); title = Given (record { start = 3; length = 4 }) };
+  album = record { artist = Some (record { start = 0; length = 3 }); title = Some (record { start = 3; length = 4 }) };
   track = defaults.track;
   text_replacement = defaults.text_replacement;
   empty_text = defaults.empty_text;
@@ -86,27 +84,27 @@ dsd_request offset contents = record {
 
 -- in the header, into PROP's size
 abbrev pub in_header : WorkedRead
-in_header = record { request = dsd_request 0 []; room = 41; answer = Filled 41 }
+in_header = record { request = dsd_request 0 []; room = 41; answer = Ok 41 }
 
 -- the rest of the header and half of the frame
 abbrev pub header_and_sound : WorkedRead
-header_and_sound = record { request = dsd_request 41 sound_content; room = 4_995; answer = Filled 4_995 }
+header_and_sound = record { request = dsd_request 41 sound_content; room = 4_995; answer = Ok 4_995 }
 
--- no content is lent where the frame is needed
+-- no content is lent where the frame is needed: 43
 abbrev pub without_content : WorkedRead
-without_content = record { request = dsd_request 331 []; room = 2; answer = Refused 43 0 }
+without_content = record { request = dsd_request 331 []; room = 2; answer = Err NotLent }
 
 -- the other half, and five bytes of the trailer
 abbrev pub sound_and_trailer : WorkedRead
-sound_and_trailer = record { request = dsd_request 5_036 sound_content; room = 4_709; answer = Filled 4_709 }
+sound_and_trailer = record { request = dsd_request 5_036 sound_content; room = 4_709; answer = Ok 4_709 }
 
 -- from the fourth byte of the trailer on, with room for more than there is
 abbrev pub in_trailer : WorkedRead
-in_trailer = record { request = dsd_request 9_743 []; room = 100; answer = Filled 15 }
+in_trailer = record { request = dsd_request 9_743 []; room = 100; answer = Ok 15 }
 
 -- at the end
 abbrev pub at_end : WorkedRead
-at_end = record { request = dsd_request 9_758 []; room = 4; answer = Filled 0 }
+at_end = record { request = dsd_request 9_758 []; room = 4; answer = Ok 0 }
 
 -- what the readers get: up to CMPR; of the comments, whose first has no reference and a text of five bytes; and all
 abbrev pub dsd_stereo : List Report

@@ -1,12 +1,12 @@
 -- A WORKED INSTANCE of demand 3: 01's figure "Stereo DST, lengths 3 and 4" with CRC (file 258, entries 158 and 190), and six reads of it, of which two are refused. Assumes nothing.
-use Rattle.std.specs.Prelude.{true, List, [], ◌∷◌, ◌++◌, ℕ, ◌-◌, ◌^◌, replicate}
+use Rattle.std.specs.Prelude.{true, List, [], ◌∷◌, ◌++◌, ℕ, ◌-◌, ◌^◌, replicate, Ok, Err}
 use Rattle.chunk_names.specs.Name.{ascii}
 use Rattle.tree.specs.Reader.{Report}
 use Rattle.dst.specs.Frame.{Frame}
 use Rattle.prop_fields.specs.declared.compression.Sound.TheVariants.{Dst}
 use Rattle.file_tree.specs.File.{header_of, trailer_of}
 use Rattle.starred_figures.specs.StarredFigures.{dst-crc}
-use Rattle.read_answer.specs.declared.answer.ReadAnswer.TheVariants.{Filled, Refused}
+use Rattle.refusal.specs.declared.verdict.Refusal.TheVariants.{NotLent, Format}
 use Rattle.file_read.specs.Read.{Request}
 use Rattle.old_readers.specs.Premises.{AcceptedBuild, Call}
 use Rattle.worked_reads.specs.Instance.{WorkedRead, Instance, Worked, report_of, stereo_reports}
@@ -33,31 +33,31 @@ dst_request channels offset lent codes contents = record {
 
 -- the header and two bytes of the first frame's DSTF
 abbrev pub front_read : WorkedRead
-front_read = record { request = dst_request 2 0 (3 ∷ []) first_frame.code first_frame.content; room = 160; answer = Filled 160 }
+front_read = record { request = dst_request 2 0 (3 ∷ []) first_frame.code first_frame.content; room = 160; answer = Ok 160 }
 
--- nothing is lent where a frame is needed
+-- nothing is lent where a frame is needed: 43
 abbrev pub unlent_read : WorkedRead
-unlent_read = record { request = dst_request 2 160 [] [] []; room = 10; answer = Refused 43 0 }
+unlent_read = record { request = dst_request 2 160 [] [] []; room = 10; answer = Err NotLent }
 
 -- the rest of both units, and two bytes of the trailer
 abbrev pub middle_read : WorkedRead
 middle_read = record {
   request = dst_request 2 160 (3 ∷ 4 ∷ []) (first_frame.code ++ second_frame.code) (first_frame.content ++ second_frame.content);
   room = 64;
-  answer = Filled 64;
+  answer = Ok 64;
 }
 
 -- from the second frame's DSTC to the end
 abbrev pub end_read : WorkedRead
-end_read = record { request = dst_request 2 220 (4 ∷ []) second_frame.code second_frame.content; room = 100; answer = Filled 38 }
+end_read = record { request = dst_request 2 220 (4 ∷ []) second_frame.code second_frame.content; room = 100; answer = Ok 38 }
 
 -- past the end
 abbrev pub past_read : WorkedRead
-past_read = record { request = dst_request 2 (2 ^ 64 - 1) [] [] []; room = 4; answer = Filled 0 }
+past_read = record { request = dst_request 2 (2 ^ 64 - 1) [] [] []; room = 4; answer = Ok 0 }
 
--- seven channels
+-- seven channels: 42
 abbrev pub seven_read : WorkedRead
-seven_read = record { request = dst_request 7 0 [] [] []; room = 4; answer = Refused 42 0 }
+seven_read = record { request = dst_request 7 0 [] [] []; room = 4; answer = Err Format }
 
 -- what the readers get up to CMPR
 abbrev pub dst_stereo : List Report
