@@ -4,11 +4,12 @@ use build_answer::answer::Answer;
 
 #[derive(Clone, Copy)]
 pub enum Wanted {
+    // Their lengths; header and trailer follow in the file.
     Built {
         header: u64,
         sound: u64,
         trailer: u64,
-    }, // the lengths; header and trailer follow in the file
+    },
     Refused {
         number: u64,
         detail: u64,
@@ -16,14 +17,6 @@ pub enum Wanted {
 }
 
 impl Wanted {
-    // The number of the refusal, 0 for none.
-    pub(crate) fn number(self) -> u64 {
-        match self {
-            Wanted::Built { .. } => 0,
-            Wanted::Refused { number, .. } => number,
-        }
-    }
-
     // Whether it is so answered, the buffers having so many bytes: 40 or 41 where they are too few.
     pub(crate) fn holds(self, given: Answer, header_room: usize, trailer_room: usize) -> bool {
         match self {

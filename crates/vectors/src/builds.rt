@@ -69,7 +69,6 @@ fn recorded(numbers: &mut Numbers, wanted: Wanted, sides: &mut Sides) -> bool {
 }
 
 fn tally(counts: &mut Counts, words: &[u32], recorded: Recorded, agrees: bool) {
-    counts.add_refusal(recorded.wanted.number());
     counts.add_if(Count::Alone, recorded.alone);
     counts.add_if(Count::BuildsAgree, agrees);
     match recorded.wanted {
@@ -90,7 +89,10 @@ fn tally(counts: &mut Counts, words: &[u32], recorded: Recorded, agrees: bool) {
                 counts.add(Count::Bytes, count(trailer));
             }
         }
-        Wanted::Refused { .. } => counts.add(Count::Refused, 1),
+        Wanted::Refused { number, .. } => {
+            counts.add(Count::Refused, 1);
+            counts.add_refusal(number);
+        }
     }
 }
 

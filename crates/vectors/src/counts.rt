@@ -60,7 +60,7 @@ impl Counts {
         }
     }
 
-    // One more of this refusal; 0 is none.
+    // One more of this refusal.
     pub(crate) fn add_refusal(&mut self, number: u64) {
         if number < ROOM as u64 {
             let k = number as usize;

@@ -22,7 +22,7 @@ fn is_asked(f: File, w: Window) -> bool {
     let given = file_query::query::query(
         f.format, f.lengths, f.header, f.trailer, w.offset, w.room,
     );
-    if w.number == 42 {
+    if w.refusal == Some(42) {
         given.number() == 42 && given.values() == [0, 0]
     } else {
         given.number() == 0 && given.values() == [w.first, w.end]
@@ -54,10 +54,9 @@ fn call(f: File, header: &[u8], trailer: &[u8], w: Window, out: &mut [u8]) -> Re
 
 // The bytes that are recorded, into a buffer. How many, if they are bytes.
 fn recorded(numbers: &mut Numbers, w: Window, wanted: &mut [u8]) -> Option<usize> {
-    if w.number == 0 {
-        unpack::bytes(numbers, wanted)
-    } else {
-        Some(0)
+    match w.refusal {
+        None => unpack::bytes(numbers, wanted),
+        Some(_) => Some(0),
     }
 }
 
@@ -72,7 +71,7 @@ fn answers(
     match out.get_mut(..count(w.room)) {
         Some(out) => {
             let given = call(f, header, trailer, w, out);
-            u64::from(given.number()) == w.number && given.value() == filled as u64
+            u64::from(given.number()) == w.refusal.unwrap_or(0) && given.value() == filled as u64
         }
         None => false,
     }
@@ -108,8 +107,8 @@ fn read(
     w: Window,
 ) -> bool {
     let agrees = fills(numbers, counts, f, header, trailer, w);
-    counts.add_if(Count::Filled, w.number == 0);
-    counts.add_if(Count::NotFilled, w.number != 0);
+    counts.add_if(Count::Filled, w.refusal.is_none());
+    counts.add_if(Count::NotFilled, w.refusal.is_some());
     counts.add_if(Count::ReadsAgree, agrees);
     agrees
 }
@@ -120,7 +119,9 @@ fn query(counts: &mut Counts, f: File, w: Window) -> bool {
     counts.add(Count::Queries, 1);
     counts.add_if(Count::QueriesAgree, agrees);
     counts.add_if(Count::Alone, w.alone);
-    counts.add_refusal(w.number);
+    if let Some(number) = w.refusal {
+        counts.add_refusal(number);
+    }
     let kind = match (f.dst, f.format.crc) {
         (false, _) => Count::WindowsDsd,
         (true, false) => Count::WindowsDst,

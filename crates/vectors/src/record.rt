@@ -13,7 +13,7 @@ const RAW: usize = 1_050_000;
 
 const FILE_WORDS: usize = 2_048;
 
-// The two longest tables are on the heap: a stack of 8 MiB has no room for them. The raw bytes stand behind the words and are
+// The two longest tables, of 5.2 MB, are on the heap, to keep the stack small. The raw bytes stand behind the words and are
 // unpacked by way of the rows, so the words come again after them.
 fn build(alloc: Global, numbers: &mut Numbers, counts: &mut Counts) -> Result<bool, AllocError> {
     let mut rows = vec![in alloc; 0u32; WORDS]?;

@@ -1,8 +1,8 @@
 // A recorded window.
 use crate::number::Numbers;
 
-// From the file's byte `offset` on so many bytes; the positions needed, the first and one past the last; how many lengths, bytes
-// of DST frames and bytes of content are lent; whether the answer is by document 01 alone; the number of the refusal, 0 for none.
+// From the file's byte `offset` on so many bytes; the positions needed, the first and one past the last; how many lengths,
+// bytes of DST frames and bytes of content are lent; whether the answer is by document 01 alone; the number of the refusal.
 #[derive(Clone, Copy)]
 pub struct Window {
     pub offset: u64,
@@ -13,7 +13,7 @@ pub struct Window {
     pub frames: usize,
     pub contents: usize,
     pub alone: bool,
-    pub number: u64,
+    pub refusal: Option<u64>,
 }
 
 pub(crate) fn read(numbers: &mut Numbers) -> Window {
@@ -26,6 +26,9 @@ pub(crate) fn read(numbers: &mut Numbers) -> Window {
         frames: numbers.take_count(),
         contents: numbers.take_count(),
         alone: numbers.take_switch(),
-        number: numbers.take(),
+        refusal: match numbers.take() {
+            0 => None,
+            number => Some(number),
+        },
     }
 }
