@@ -1,36 +1,33 @@
 // The file that windows are of.
 use crate::lists::first;
 use crate::number::Numbers;
-use crate::unpack;
 use read_rules::format::SoundFormat;
 use single_words::word::{byte, is_set, word};
 
 // Where the count of the lengths stands among the words.
 const LENGTHS: usize = 5;
 
-// Whether it is DST; the sound, the lengths of its DST frames, the seed of its bytes, the lengths of header and trailer, and
-// whether these are recorded.
+// The sound, the lengths of its DST frames, the seed of its bytes, and the lengths of header and trailer.
 #[derive(Clone, Copy)]
 pub struct File<'a> {
-    pub dst: bool,
     pub format: SoundFormat,
     pub lengths: &'a [u32],
     pub seed: u32,
     pub header: u64,
     pub trailer: u64,
-    pub has_bytes: bool,
 }
 
-// Header and trailer go into two buffers, if they are recorded.
-pub(crate) fn read<'a>(
-    numbers: &mut Numbers,
-    rows: &'a [u32],
-    header: &mut [u8],
-    trailer: &mut [u8],
-) -> File<'a> {
+// What stands around the sound. Without it only queries can be asked.
+#[derive(Clone, Copy)]
+pub struct Ends<'a> {
+    pub header: &'a [u8],
+    pub trailer: &'a [u8],
+}
+
+// The rows are the unpacked words of the file.
+pub(crate) fn read<'a>(numbers: &mut Numbers, rows: &'a [u32]) -> File<'a> {
     let (lengths, _) = first(rows.get(LENGTHS..).unwrap_or_default());
-    let file = File {
-        dst: is_set(rows, 0),
+    File {
         format: SoundFormat {
             sound: meanings::property::sound(is_set(rows, 0)),
             crc: is_set(rows, 1),
@@ -41,11 +38,5 @@ pub(crate) fn read<'a>(
         seed: word(rows, 4),
         header: numbers.take(),
         trailer: numbers.take(),
-        has_bytes: numbers.take_switch(),
-    };
-    if file.has_bytes {
-        unpack::bytes(numbers, header);
-        unpack::bytes(numbers, trailer);
     }
-    file
 }

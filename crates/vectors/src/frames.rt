@@ -21,7 +21,8 @@ pub(crate) fn contents(out: &mut [u8], seed: u32, first: usize, end: usize, leng
     }
     let seed = low(seed as usize);
     for (k, content) in (first..end).zip(out.chunks_mut(length)) {
-        fill(content, seed.wrapping_add(low(k).wrapping_mul(7)), 31);
+        let start = seed.wrapping_add(low(k).wrapping_mul(7));
+        fill(content, start, 31);
     }
 }
 
@@ -31,11 +32,8 @@ pub(crate) fn frames(out: &mut [u8], seed: u32, lengths: &[u32], first: usize, e
     let mut at = 0;
     for (k, length) in lengths.iter().enumerate().take(end).skip(first) {
         let next = out.len().min(at + *length as usize);
-        fill(
-            &mut out[at..next],
-            seed.wrapping_add(low(k).wrapping_mul(11)),
-            29,
-        );
+        let start = seed.wrapping_add(low(k).wrapping_mul(11));
+        fill(&mut out[at..next], start, 29);
         at = next;
     }
 }

@@ -1,10 +1,11 @@
 // A recorded window, asked and read again.
 use crate::buffers::{FILL, front};
 use crate::counts::{Count, Counts};
-use crate::file::File;
+use crate::file::{Ends, File};
 use crate::number::{Numbers, count};
 use crate::recorded_window::Window;
 use crate::{frames, recorded_window, unpack};
+use prop_fields::compression::Sound;
 use read_answer::answer::ReadAnswer;
 
 // Bytes of a channel's content.
@@ -29,7 +30,7 @@ fn is_asked(f: File, w: Window) -> bool {
     }
 }
 
-fn call(f: File, header: &[u8], trailer: &[u8], w: Window, out: &mut [u8]) -> ReadAnswer {
+fn call(f: File, ends: Ends, w: Window, out: &mut [u8]) -> ReadAnswer {
     let first = count(w.first);
     let end = count(w.end);
     let mut dst = [0; FRAMES];
@@ -40,8 +41,8 @@ fn call(f: File, header: &[u8], trailer: &[u8], w: Window, out: &mut [u8]) -> Re
     file_read::read::read(
         f.format,
         f.lengths,
-        front(header, count(f.header)),
-        front(trailer, count(f.trailer)),
+        ends.header,
+        ends.trailer,
         w.offset,
         f.lengths
             .get(first..first.saturating_add(w.lent))
@@ -60,17 +61,10 @@ fn recorded(numbers: &mut Numbers, w: Window, wanted: &mut [u8]) -> Option<usize
     }
 }
 
-fn answers(
-    f: File,
-    header: &[u8],
-    trailer: &[u8],
-    w: Window,
-    filled: usize,
-    out: &mut [u8],
-) -> bool {
+fn answers(f: File, ends: Ends, w: Window, filled: usize, out: &mut [u8]) -> bool {
     match out.get_mut(..count(w.room)) {
         Some(out) => {
-            let given = call(f, header, trailer, w, out);
+            let given = call(f, ends, w, out);
             u64::from(given.number()) == w.refusal.unwrap_or(0) && given.value() == filled as u64
         }
         None => false,
@@ -78,35 +72,21 @@ fn answers(
 }
 
 // Whether the read fills what is recorded and leaves the rest of a buffer of FILL.
-fn fills(
-    numbers: &mut Numbers,
-    counts: &mut Counts,
-    f: File,
-    header: &[u8],
-    trailer: &[u8],
-    w: Window,
-) -> bool {
+fn fills(numbers: &mut Numbers, counts: &mut Counts, f: File, ends: Ends, w: Window) -> bool {
     let mut out = [FILL; ROOM];
     let mut wanted = [FILL; ROOM];
     let Some(filled) = recorded(numbers, w, &mut wanted) else {
         return false;
     };
-    let agrees = answers(f, header, trailer, w, filled, &mut out) && out == wanted;
+    let agrees = answers(f, ends, w, filled, &mut out) && out == wanted;
     if agrees {
         counts.add(Count::FilledBytes, filled);
     }
     agrees
 }
 
-fn read(
-    numbers: &mut Numbers,
-    counts: &mut Counts,
-    f: File,
-    header: &[u8],
-    trailer: &[u8],
-    w: Window,
-) -> bool {
-    let agrees = fills(numbers, counts, f, header, trailer, w);
+fn read(numbers: &mut Numbers, counts: &mut Counts, f: File, ends: Ends, w: Window) -> bool {
+    let agrees = fills(numbers, counts, f, ends, w);
     counts.add_if(Count::Filled, w.refusal.is_none());
     counts.add_if(Count::NotFilled, w.refusal.is_some());
     counts.add_if(Count::ReadsAgree, agrees);
@@ -122,41 +102,29 @@ fn query(counts: &mut Counts, f: File, w: Window) -> bool {
     if let Some(number) = w.refusal {
         counts.add_refusal(number);
     }
-    let kind = match (f.dst, f.format.crc) {
-        (false, _) => Count::WindowsDsd,
-        (true, false) => Count::WindowsDst,
-        (true, true) => Count::WindowsDstWithCrcs,
+    let kind = match f.format.sound {
+        Sound::Dsd => Count::WindowsDsd,
+        Sound::Dst if f.format.crc => Count::WindowsDstWithCrcs,
+        Sound::Dst => Count::WindowsDst,
     };
     counts.add(kind, 1);
     agrees
 }
 
-fn run_one(
-    numbers: &mut Numbers,
-    counts: &mut Counts,
-    f: File,
-    header: &[u8],
-    trailer: &[u8],
-) -> bool {
+fn run_one(numbers: &mut Numbers, counts: &mut Counts, f: File, ends: Option<Ends>) -> bool {
     let w = recorded_window::read(numbers);
     let asked = query(counts, f, w);
-    if !f.has_bytes {
-        return asked;
+    match ends {
+        Some(ends) => read(numbers, counts, f, ends, w) && asked,
+        None => asked,
     }
-    read(numbers, counts, f, header, trailer, w) && asked
 }
 
 // The windows of a file. Whether all are as recorded.
-pub(crate) fn run(
-    numbers: &mut Numbers,
-    counts: &mut Counts,
-    f: File,
-    header: &[u8],
-    trailer: &[u8],
-) -> bool {
+pub(crate) fn run(numbers: &mut Numbers, counts: &mut Counts, f: File, ends: Option<Ends>) -> bool {
     let mut agrees = true;
     for _ in 0..numbers.take_count() {
-        agrees = run_one(numbers, counts, f, header, trailer) && agrees;
+        agrees = run_one(numbers, counts, f, ends) && agrees;
     }
     agrees
 }

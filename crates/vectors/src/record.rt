@@ -1,8 +1,9 @@
 // A record of any kind.
 use crate::buffers::{FILL, SIDE, front};
 use crate::counts::Counts;
+use crate::file::Ends;
 use crate::inputs::Inputs;
-use crate::number::Numbers;
+use crate::number::{Numbers, count};
 use crate::{builds, file, reads, unpack};
 use std::alloc::{AllocError, Global};
 
@@ -34,8 +35,17 @@ fn windows(numbers: &mut Numbers, counts: &mut Counts) -> bool {
     let mut header = [FILL; SIDE];
     let mut trailer = [FILL; SIDE];
     unpack::words(numbers, &mut rows);
-    let f = file::read(numbers, &rows, &mut header, &mut trailer);
-    reads::run(numbers, counts, f, &header, &trailer)
+    let f = file::read(numbers, &rows);
+    let has_bytes = numbers.take_switch();
+    if has_bytes {
+        unpack::bytes(numbers, &mut header);
+        unpack::bytes(numbers, &mut trailer);
+    }
+    let ends = Ends {
+        header: front(&header, count(f.header)),
+        trailer: front(&trailer, count(f.trailer)),
+    };
+    reads::run(numbers, counts, f, has_bytes.then_some(ends))
 }
 
 // The record that stands at the beginning. Whether all is as recorded.
