@@ -1,105 +1,123 @@
-// What a case is lent: its words, and its lists, which stand one after the other in `rows`. `spans` has the start and the end of each.
+// What a case is lent, and the verdict on it.
 use crate::fill::fill;
-use crate::part::{find, part};
+use crate::names::Target;
+use crate::part::split_name;
 use crate::{names, print};
 use refusal::verdict::Verdict;
+use std::alloc::{AllocError, Global};
 use std::io;
 
 pub const WORDS: usize = 67;
 
-const LISTS: usize = 7;
+// Room for the words of a text of 1,048,577 values and a little more (65,537 comments have 589,833), in all lists together, and
+// for a text of as many bytes.
+const ROWS: usize = 1_048_700;
 
-// A change: a name and its numbers, a space before each. The answer is where the lists end.
-fn change(
-    rt: &impl Print,
-    table: &[u8],
-    text: &[u8],
-    words: &mut [u32],
-    rows: &mut [u32],
-    spans: &mut [usize; 14],
-    end: usize,
-) -> io::Result<usize> {
-    let space = find(text, 1, b' ');
-    let name = part(text, 0, space);
-    let numbers = part(text, space, text.len());
-    let place = names::place(table, name);
-    if place < WORDS {
-        fill(words, place, numbers);
-        return Ok(end);
-    }
-    let list = place - WORDS;
-    if list < LISTS {
-        let next = fill(rows, end, numbers);
-        spans[list * 2] = end;
-        spans[list * 2 + 1] = next;
-        return Ok(next);
-    }
-    print::text(rt, b"no such name:")?;
-    print::text(rt, name)?;
-    print::text(rt, b"\n")?;
-    Ok(end)
+const BYTES: usize = 1_048_577;
+
+// Its words and its lists, and how many words more the lists have room for.
+#[derive(Drop)]
+pub struct Case {
+    pub words: [u32; WORDS],
+    pool: Vec<u32>,
+    raw: Vec<u32>,
+    tracks: Vec<u32>,
+    markers: Vec<u32>,
+    comments: Vec<u32>,
+    callers: Vec<u32>,
+    lengths: Vec<u32>,
+    room: usize,
 }
 
-// Changes, with a comma between them.
-pub(crate) fn changes(
-    rt: &impl Print,
-    table: &[u8],
-    text: &[u8],
-    words: &mut [u32],
-    rows: &mut [u32],
-    spans: &mut [usize; 14],
-) -> io::Result<()> {
-    let mut end = 0;
-    let mut at = 0;
-    while at < text.len() {
-        let comma = find(text, at, b',');
-        end = change(rt, table, part(text, at, comma), words, rows, spans, end)?;
-        if comma >= text.len() {
-            return Ok(());
+impl Case {
+    // These words, and empty lists.
+    pub(crate) fn new(alloc: Global, words: [u32; WORDS]) -> Case {
+        Case {
+            words,
+            pool: Vec::new(alloc),
+            raw: Vec::new(alloc),
+            tracks: Vec::new(alloc),
+            markers: Vec::new(alloc),
+            comments: Vec::new(alloc),
+            callers: Vec::new(alloc),
+            lengths: Vec::new(alloc),
+            room: ROWS,
         }
-        at = comma + 1;
     }
-    Ok(())
-}
 
-// The words of a list as bytes. The answer is how many.
-pub(crate) fn bytes(raw: &mut [u8], words: &[u32]) -> usize {
-    let mut i = 0;
-    while i < words.len() {
-        if i >= raw.len() {
-            return i;
+    // The numbers of a text as words from `at` on, as far as there are words.
+    fn set_words(&mut self, alloc: Global, at: usize, text: &[u8]) -> Result<(), AllocError> {
+        let values = fill(alloc, text, WORDS)?;
+        for (word, value) in self.words.iter_mut().skip(at).zip(&values) {
+            *word = *value;
         }
-        raw[i] = (words[i] % 0x100) as u8;
-        i += 1;
+        Ok(())
     }
-    i
-}
 
-// A list, by its number: pool, raw, tracks, markers, comments, callers, lengths.
-pub(crate) fn list<'a>(rows: &'a [u32], spans: [usize; 14], k: usize) -> &'a [u32] {
-    if k >= LISTS {
-        return &rows[..0];
+    // The numbers of a text as a list.
+    fn list(&mut self, alloc: Global, text: &[u8]) -> Result<Vec<u32>, AllocError> {
+        let values = fill(alloc, text, self.room)?;
+        self.room = self.room.saturating_sub(values.len());
+        Ok(values)
     }
-    let from = spans[k * 2];
-    let to = spans[k * 2 + 1];
-    if to > rows.len() {
-        return &rows[..0];
-    }
-    if from > to {
-        return &rows[..0];
-    }
-    &rows[from..to]
-}
 
-pub(crate) fn verdict(words: &[u32], raw: &[u8], rows: &[u32], spans: [usize; 14]) -> Verdict {
-    words::verdict::verdict(
-        words,
-        list(rows, spans, 0),
-        raw,
-        list(rows, spans, 2),
-        list(rows, spans, 3),
-        list(rows, spans, 4),
-        list(rows, spans, 5),
-        list(rows, spans, 6),
-    )
+    fn set(&mut self, alloc: Global, place: Target, text: &[u8]) -> Result<(), AllocError> {
+        match place {
+            Target::Word(at) => self.set_words(alloc, at, text)?,
+            Target::Pool => self.pool = self.list(alloc, text)?,
+            Target::Raw => self.raw = self.list(alloc, text)?,
+            Target::Tracks => self.tracks = self.list(alloc, text)?,
+            Target::Markers => self.markers = self.list(alloc, text)?,
+            Target::Comments => self.comments = self.list(alloc, text)?,
+            Target::Callers => self.callers = self.list(alloc, text)?,
+            Target::Lengths => self.lengths = self.list(alloc, text)?,
+        }
+        Ok(())
+    }
+
+    // A change: a name and its numbers, a space before each.
+    fn change(
+        &mut self,
+        rt: &(impl Print + AllocGlobal),
+        table: &[u8],
+        text: &[u8],
+    ) -> io::Result<()> {
+        let (name, numbers) = split_name(text);
+        match names::place(table, name) {
+            Some(place) => Ok(self.set(rt.alloc(), place, numbers)?),
+            None => print::no_such_name(rt, name),
+        }
+    }
+
+    // Changes, with a comma between them; one more at the end is none.
+    pub(crate) fn changes(
+        &mut self,
+        rt: &(impl Print + AllocGlobal),
+        table: &[u8],
+        text: &[u8],
+    ) -> io::Result<()> {
+        for change in text.split_inclusive(|b| *b == b',') {
+            self.change(rt, table, change.strip_suffix(b",").unwrap_or(change))?;
+        }
+        Ok(())
+    }
+
+    pub(crate) fn verdict(&self, alloc: Global) -> Result<Verdict, AllocError> {
+        let raw: Vec<u8> = self
+            .raw
+            .iter()
+            .take(BYTES)
+            .map(|word| (*word % 0x100) as u8)
+            .collect(alloc)?;
+        Ok(words::verdict::verdict(
+            &self.words,
+            &self.pool,
+            &raw,
+            &self.tracks,
+            &self.markers,
+            &self.comments,
+            &self.callers,
+            &self.lengths,
+        ))
+    }
 }

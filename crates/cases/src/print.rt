@@ -1,20 +1,20 @@
+// Lines of the answer. The parts of the table need not be text, so they are written as bytes.
 use refusal::verdict::Verdict;
 use std::io;
 
-pub(crate) fn text(rt: &impl Print, s: &[u8]) -> io::Result<()> {
-    rt.write_all(s)
+pub(crate) fn text(rt: &impl Print, line: &[u8]) -> io::Result<()> {
+    rt.write_all(line)?;
+    println!(rt)
 }
 
-fn number(rt: &impl Print, n: u64) -> io::Result<()> {
-    print!(rt; "{n}")
+// The name with the space before it.
+pub(crate) fn no_such_name(rt: &impl Print, name: &[u8]) -> io::Result<()> {
+    print!(rt; "no such name:")?;
+    text(rt, name)
 }
 
-// A line: what is tried, and the number and the detail that are answered.
+// What is tried, and the number and the detail that are answered.
 pub(crate) fn line(rt: &impl Print, label: &[u8], v: Verdict) -> io::Result<()> {
-    text(rt, label)?;
-    text(rt, b": ")?;
-    number(rt, v.number() as u64)?;
-    text(rt, b" ")?;
-    number(rt, v.detail())?;
-    text(rt, b"\n")
+    rt.write_all(label)?;
+    println!(rt; ": {} {}", v.number(), v.detail())
 }

@@ -11,50 +11,49 @@ use texts::extent::Extent;
 use texts::text::{TextOptions, TextRule};
 use tracks::order::ProgramOptions;
 
-// The words of rows: a track has start, duration, title start and title length; a marker frame, kind and flags, text start and text length.
-const TOUCHING: [u32; 8] = [0, 75, 0, 0, 75, 75, 0, 0];
+// The words of rows: a track has start, duration, title start and title length; a marker frame, kind and flags, text start and
+// text length.
+static TOUCHING: [u32; 8] = [0, 75, 0, 0, 75, 75, 0, 0];
 
-const APART: [u32; 8] = [0, 40, 0, 0, 60, 60, 0, 0];
+static APART: [u32; 8] = [0, 40, 0, 0, 60, 60, 0, 0];
 
-const OUT_OF_ORDER: [u32; 8] = [75, 75, 0, 0, 0, 75, 0, 0];
+static OUT_OF_ORDER: [u32; 8] = [75, 75, 0, 0, 0, 75, 0, 0];
 
-const TITLED: [u32; 8] = [0, 75, 0, 4, 75, 75, 4, 5];
+static TITLED: [u32; 8] = [0, 75, 0, 4, 75, 75, 4, 5];
 
-const GIVEN: [u32; 20] = [
+static GIVEN: [u32; 20] = [
     0, 0x2_0000, 0, 0, 0, 0x8001, 0, 3, 75, 0x4_8001, 3, 4, 150, 0x1_8001, 7, 1, 150, 0, 8, 2,
 ];
 
-const NO_ROWS: [u32; 0] = [];
-
 // "Onée" and "Zwei€"
-const TITLES: [u32; 9] = [0x4F, 0x6E, 0xE9, 0x65, 0x5A, 0x77, 0x65, 0x69, 0x20AC];
-
-const RAW: [u8; 10] = *b"abcdefghij";
+static TITLES: [u32; 9] = [0x4F, 0x6E, 0xE9, 0x65, 0x5A, 0x77, 0x65, 0x69, 0x20AC];
 
 fn diin(
     rt: &impl Print,
-    title: &[u8],
+    title: &str,
     tracks: &[u32],
     custom: &[u32],
     order: [InfoChunk; 4],
     info: Info,
 ) -> io::Result<()> {
     let mut out = [0xEEu8; 320];
-    let pool = TITLES;
-    let raw = RAW;
     let c = Cursor::new();
-    let end = master_info::diin::diin(c, &mut out, &pool, &raw, tracks, custom, order, info);
-    print::text(rt, b"DIIN, ")?;
-    print::text(rt, title)?;
-    print::length(rt, end.at)?;
-    print::front(rt, &out, end.at)
+    let end = master_info::diin::diin(
+        c,
+        &mut out,
+        &TITLES,
+        b"abcdefghij",
+        tracks,
+        custom,
+        order,
+        info,
+    );
+    print!(rt; "DIIN, {title}")?;
+    print::written(rt, &out, end.at)
 }
 
 fn given(start: u32, length: u32) -> Text {
-    Text::Given(Extent {
-        start: start,
-        length: length,
-    })
+    Text::Given(Extent { start, length })
 }
 
 fn absent() -> ArtistTitle {
@@ -67,10 +66,10 @@ fn absent() -> ArtistTitle {
 // Frames first to end of 150.
 fn program(first: u32, end: u32, source_track: u16) -> ProgramOptions {
     ProgramOptions {
-        first: first,
-        end: end,
+        first,
+        end,
         playtime: 150,
-        source_track: source_track,
+        source_track,
         source_track_markers: true,
         clipped_program: true,
         titles: true,
@@ -79,7 +78,7 @@ fn program(first: u32, end: u32, source_track: u16) -> ProgramOptions {
 
 fn options(rule: TextRule) -> TextOptions {
     TextOptions {
-        rule: rule,
+        rule,
         empty_text: false,
         text_pad_counted: true,
     }
@@ -91,9 +90,9 @@ fn only_markers(program: ProgramOptions, start: Start, custom_markers: bool) -> 
         on: true,
         empty_info: false,
         emid: Text::Absent,
-        custom_markers: custom_markers,
-        program: program,
-        start: start,
+        custom_markers,
+        program,
+        start,
         text: options(TextRule::D2),
         artist_title: false,
         artist_title_source: ArtistTitleSource::TrackThenAlbum,
@@ -124,19 +123,19 @@ fn texts() -> Info {
         custom_markers: true,
         program: program(0, 150, 2),
         start: Start::Absent,
-        text: text,
+        text,
         artist_title: true,
         artist_title_source: ArtistTitleSource::TrackThenAlbum,
-        album: album,
-        track: track,
+        album,
+        track,
     }
 }
 
 // Nothing to tell.
 fn nothing(on: bool, empty_info: bool) -> Info {
     Info {
-        on: on,
-        empty_info: empty_info,
+        on,
+        empty_info,
         emid: Text::Absent,
         custom_markers: true,
         program: program(0, 150, 0),
@@ -159,88 +158,32 @@ fn reversed() -> [InfoChunk; 4] {
 }
 
 fn programs(rt: &impl Print) -> io::Result<()> {
-    let touching = TOUCHING;
-    let apart = APART;
-    let out_of_order = OUT_OF_ORDER;
-    let titled = TITLED;
-    let none = NO_ROWS;
-    let whole = program(0, 150, 0);
-    let part = program(10, 100, 0);
-    let second = program(50, 140, 2);
     let order = InfoChunk::table_order();
-    diin(
-        rt,
-        b"tracks 0 to 75 and 75 to 150",
-        &touching,
-        &none,
-        order,
-        only_markers(whole, Start::Absent, false),
-    )?;
-    diin(
-        rt,
-        b"frames 10 to 100 of tracks 0 to 40 and 60 to 120, start 75",
-        &apart,
-        &none,
-        order,
-        only_markers(part, Start::Given(75), false),
-    )?;
-    diin(
-        rt,
-        b"tracks out of order",
-        &out_of_order,
-        &none,
-        order,
-        only_markers(whole, Start::Absent, false),
-    )?;
-    diin(
-        rt,
-        b"source track with its title",
-        &titled,
-        &none,
-        order,
-        only_markers(second, Start::Given(0), false),
-    )
+    let whole = only_markers(program(0, 150, 0), Start::Absent, false);
+    let part = only_markers(program(10, 100, 0), Start::Given(75), false);
+    let second = only_markers(program(50, 140, 2), Start::Given(0), false);
+    let title = "tracks 0 to 75 and 75 to 150";
+    diin(rt, title, &TOUCHING, &[], order, whole)?;
+    let title = "frames 10 to 100 of tracks 0 to 40 and 60 to 120, start 75";
+    diin(rt, title, &APART, &[], order, part)?;
+    let title = "tracks out of order";
+    diin(rt, title, &OUT_OF_ORDER, &[], order, whole)?;
+    let title = "source track with its title";
+    diin(rt, title, &TITLED, &[], order, second)
 }
 
 fn others(rt: &impl Print) -> io::Result<()> {
     let order = InfoChunk::table_order();
-    let titled = TITLED;
-    let custom = GIVEN;
-    let none = NO_ROWS;
-    let whole = program(0, 150, 0);
-    diin(
-        rt,
-        b"custom markers, pads counted",
-        &titled,
-        &custom,
-        order,
-        only_markers(whole, Start::Absent, true),
-    )?;
-    diin(
-        rt,
-        b"EMID, artist and title, reversed",
-        &titled,
-        &none,
-        reversed(),
-        texts(),
-    )?;
-    diin(
-        rt,
-        b"nothing in it",
-        &none,
-        &none,
-        order,
-        nothing(true, true),
-    )?;
-    diin(
-        rt,
-        b"nothing in it, left out",
-        &none,
-        &none,
-        order,
-        nothing(true, false),
-    )?;
-    diin(rt, b"info off", &none, &none, order, nothing(false, true))
+    let custom = only_markers(program(0, 150, 0), Start::Absent, true);
+    let title = "custom markers, pads counted";
+    diin(rt, title, &TITLED, &GIVEN, order, custom)?;
+    let title = "EMID, artist and title, reversed";
+    diin(rt, title, &TITLED, &[], reversed(), texts())?;
+    let title = "nothing in it";
+    diin(rt, title, &[], &[], order, nothing(true, true))?;
+    let title = "nothing in it, left out";
+    diin(rt, title, &[], &[], order, nothing(true, false))?;
+    diin(rt, "info off", &[], &[], order, nothing(false, true))
 }
 
 pub(crate) fn cases(rt: &impl Print) -> io::Result<()> {

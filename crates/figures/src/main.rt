@@ -3,12 +3,12 @@
 
 mod chunks; // chunks.rt: numbers, chunks, frame times, names
 mod text; // text.rt: converted texts, DIAR and DITI, COMT
-mod text_cases; // text_cases.rt: their pools and comments
+mod text_cases; // text_cases.rt: their pools, comments and options
 mod sound; // sound.rt: CRC, units, head, index and reads of DST sound; positions
 mod property; // property.rt: PROP
 mod diin; // diin.rt: DIIN and its markers
 mod document; // document.rt: document 01's figures that have no star
-mod print; // print.rt: lines of text, numbers and bytes
+mod print; // print.rt: lines of bytes
 
 use std::io;
 

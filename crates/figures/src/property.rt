@@ -13,17 +13,17 @@ fn defaults(sound: Sound, layout: Layout, channels: u8, d1: bool) -> Properties 
     let numbers = ChannelNumbers {
         given: false,
         count: 0,
-        numbers: [0, 0, 0, 0, 0, 0],
+        numbers: [0; 6],
     };
     Properties {
-        sound: sound,
-        layout: layout,
-        channels: channels,
-        numbers: numbers,
+        sound,
+        layout,
+        channels,
+        numbers,
         start: Start::Absent,
         loudspeaker_configuration: true,
         unspecified_loudspeaker_configuration: false,
-        d1: d1,
+        d1,
     }
 }
 
@@ -38,7 +38,7 @@ fn numbered() -> Properties {
         sound: Sound::Dsd,
         layout: Layout::Unspecified,
         channels: 3,
-        numbers: numbers,
+        numbers,
         start: Start::Given(6_479_998),
         loudspeaker_configuration: false,
         unspecified_loudspeaker_configuration: true,
@@ -58,54 +58,32 @@ fn reversed() -> [PropertyChunk; 5] {
 
 fn property(
     rt: &impl Print,
-    title: &[u8],
+    title: &str,
     order: [PropertyChunk; 5],
     p: Properties,
 ) -> io::Result<()> {
     let mut out = [0xEEu8; 160];
     let c = Cursor::new();
     let end = prop::property::property(c, &mut out, order, p);
-    print::text(rt, b"PROP, ")?;
-    print::text(rt, title)?;
-    print::length(rt, end.at)?;
-    print::front(rt, &out, end.at)
+    print!(rt; "PROP, {title}")?;
+    print::written(rt, &out, end.at)
 }
 
 pub(crate) fn cases(rt: &impl Print) -> io::Result<()> {
     let order = PropertyChunk::table_order();
+    let stereo = defaults(Sound::Dsd, Layout::Stereo, 2, false);
+    let stereo_d1 = defaults(Sound::Dsd, Layout::Stereo, 2, true);
+    let three_two = defaults(Sound::Dst, Layout::ThreeTwo, 5, false);
+    let five_point_one = defaults(Sound::Dst, Layout::FivePointOne, 6, true);
+    let unspecified = defaults(Sound::Dsd, Layout::Unspecified, 4, false);
+    property(rt, "stereo DSD", order, stereo)?;
+    property(rt, "stereo DSD, D1", order, stereo_d1)?;
+    property(rt, "3/2 DST", order, three_two)?;
+    property(rt, "5.1 DST, D1", order, five_point_one)?;
+    property(rt, "unspecified DSD", order, unspecified)?;
     property(
         rt,
-        b"stereo DSD",
-        order,
-        defaults(Sound::Dsd, Layout::Stereo, 2, false),
-    )?;
-    property(
-        rt,
-        b"stereo DSD, D1",
-        order,
-        defaults(Sound::Dsd, Layout::Stereo, 2, true),
-    )?;
-    property(
-        rt,
-        b"3/2 DST",
-        order,
-        defaults(Sound::Dst, Layout::ThreeTwo, 5, false),
-    )?;
-    property(
-        rt,
-        b"5.1 DST, D1",
-        order,
-        defaults(Sound::Dst, Layout::FivePointOne, 6, true),
-    )?;
-    property(
-        rt,
-        b"unspecified DSD",
-        order,
-        defaults(Sound::Dsd, Layout::Unspecified, 4, false),
-    )?;
-    property(
-        rt,
-        b"channels 7, 42 and 999, reversed, with start and LSCO",
+        "channels 7, 42 and 999, reversed, with start and LSCO",
         reversed(),
         numbered(),
     )

@@ -1,26 +1,31 @@
 // Buffers.
+use std::alloc::{AllocError, Global};
 
 // What they hold before a call.
 pub const FILL: u8 = 0xA5;
 
-// The first n bytes, none where there are fewer.
-pub(crate) fn front<'a>(bytes: &'a [u8], n: usize) -> &'a [u8] {
-    if n > bytes.len() {
-        return &bytes[..0];
-    }
-    &bytes[0..n]
+// Room for a header.
+const ROOM: usize = 66_560;
+
+// Room for a trailer, and for the two sides of a file that is read.
+pub const SIDE: usize = 8_192;
+
+// The buffers of a build.
+#[derive(PartialEq, Drop)]
+pub struct Sides {
+    pub header: Vec<u8>,
+    pub trailer: Vec<u8>,
 }
 
-pub(crate) fn same(a: &[u8], b: &[u8]) -> bool {
-    if a.len() != b.len() {
-        return false;
+impl Sides {
+    pub(crate) fn new(alloc: Global) -> Result<Sides, AllocError> {
+        let header = vec![in alloc; FILL; ROOM]?;
+        let trailer = vec![in alloc; FILL; SIDE]?;
+        Ok(Sides { header, trailer })
     }
-    let mut i = 0;
-    while i < a.len() {
-        if a[i] != b[i] {
-            return false;
-        }
-        i += 1;
-    }
-    true
+}
+
+// The first n bytes, none where there are fewer.
+pub(crate) fn front(bytes: &[u8], n: usize) -> &[u8] {
+    bytes.get(..n).unwrap_or_default()
 }

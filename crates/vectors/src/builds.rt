@@ -1,251 +1,142 @@
 // A recorded build, built again.
-use crate::answer::Wanted;
-use crate::buffers::same;
-use crate::inputs::Lists;
-use crate::number::count;
-use crate::unpack::Unpacked;
-use crate::{answer, buffers, by_records, counts, inputs, unpack};
+use crate::answer::{Recorded, Wanted};
+use crate::buffers::Sides;
+use crate::counts::{Count, Counts};
+use crate::inputs::Inputs;
+use crate::number::{Numbers, count};
+use crate::{answer, by_records, unpack};
 use single_words::word::is_set;
+use std::alloc::{AllocError, Global};
 
 // Where among the words the kind of sound stands, and the switch of CRCs.
 const SOUND: usize = 0;
 
 const CRC: usize = 18;
 
-// Whether all is as recorded, and where the record ends.
-#[derive(Clone, Copy)]
-pub struct Outcome {
-    pub agrees: bool,
-    pub end: usize,
-}
-
 // With buffers of which the first so many bytes are lent.
 fn build_short(
-    rows: &[u32],
-    raw: &[u8],
-    lists: Lists,
+    inputs: Inputs,
     wanted: Wanted,
-    header: &mut [u8],
+    sides: &mut Sides,
     header_room: usize,
-    trailer: &mut [u8],
     trailer_room: usize,
 ) -> bool {
-    if header_room > header.len() {
+    if header_room > sides.header.len() || trailer_room > sides.trailer.len() {
         return false;
     }
-    if trailer_room > trailer.len() {
-        return false;
-    }
-    let given = inputs::build(
-        rows,
-        raw,
-        lists,
-        &mut header[0..header_room],
-        &mut trailer[0..trailer_room],
-    );
-    answer::holds(wanted, given, header_room, trailer_room)
+    let header = &mut sides.header[..header_room];
+    let trailer = &mut sides.trailer[..trailer_room];
+    wanted.holds(inputs.build(header, trailer), header_room, trailer_room)
 }
 
-// With a buffer that is one byte short, first for the header, then for the trailer, if it is built and has one. The buffers are to stay.
-fn refused_short(
-    counts: &mut [usize],
-    rows: &[u32],
-    raw: &[u8],
-    lists: Lists,
-    wanted: Wanted,
-    header: &mut [u8],
-    trailer: &mut [u8],
-) -> bool {
-    if wanted.number != 0 {
+// With a buffer that is one byte short, first for the header, then for the trailer, if it is built and has one. The buffers are
+// to stay.
+fn refused_short(counts: &mut Counts, inputs: Inputs, wanted: Wanted, sides: &mut Sides) -> bool {
+    let Wanted::Built {
+        header,
+        trailer,
+        ..
+    } = wanted
+    else {
+        return true;
+    };
+    let header = count(header);
+    let trailer = count(trailer);
+    if header == 0 || !build_short(inputs, wanted, sides, header - 1, trailer) {
+        return false;
+    }
+    counts.add(Count::Short, 1);
+    if trailer == 0 {
         return true;
     }
-    let values = wanted.values;
-    let in_header = count(values[0]);
-    let in_trailer = count(values[2]);
-    if in_header == 0 {
-        return false;
-    }
-    if !build_short(
-        rows,
-        raw,
-        lists,
-        wanted,
+    counts.add(Count::Short, 1);
+    build_short(inputs, wanted, sides, header, trailer - 1)
+}
+
+// The recorded header and trailer. Whether they have the recorded lengths.
+fn recorded(numbers: &mut Numbers, wanted: Wanted, sides: &mut Sides) -> bool {
+    let Wanted::Built {
         header,
-        in_header - 1,
         trailer,
-        in_trailer,
-    ) {
-        return false;
-    }
-    counts::add(counts, counts::SHORT, 1);
-    if in_trailer == 0 {
+        ..
+    } = wanted
+    else {
         return true;
-    }
-    counts::add(counts, counts::SHORT, 1);
-    build_short(
-        rows,
-        raw,
-        lists,
-        wanted,
-        header,
-        in_header,
-        trailer,
-        in_trailer - 1,
-    )
+    };
+    let in_header = unpack::bytes(numbers, &mut sides.header);
+    let in_trailer = unpack::bytes(numbers, &mut sides.trailer);
+    in_header == Some(count(header)) && in_trailer == Some(count(trailer))
 }
 
-// The recorded header and trailer, into two buffers. Where the record ends, and whether they have the recorded lengths.
-fn recorded(file: &[u8], wanted: Wanted, header: &mut [u8], trailer: &mut [u8]) -> Outcome {
-    if wanted.number != 0 {
-        return Outcome {
-            agrees: true,
-            end: wanted.at,
-        };
+fn tally(counts: &mut Counts, words: &[u32], recorded: Recorded, agrees: bool) {
+    counts.add_if(Count::Alone, recorded.alone);
+    counts.add_if(Count::BuildsAgree, agrees);
+    match recorded.wanted {
+        Wanted::Built {
+            header,
+            trailer,
+            ..
+        } => {
+            counts.add(Count::Built, 1);
+            let kind = match (is_set(words, SOUND), is_set(words, CRC)) {
+                (false, _) => Count::BuiltDsd,
+                (true, false) => Count::BuiltDst,
+                (true, true) => Count::BuiltDstWithCrcs,
+            };
+            counts.add(kind, 1);
+            if agrees {
+                counts.add(Count::Bytes, count(header));
+                counts.add(Count::Bytes, count(trailer));
+            }
+        }
+        Wanted::Refused { number, .. } => {
+            counts.add(Count::Refused, 1);
+            counts.add_refusal(number);
+        }
     }
-    let h = unpack::bytes(file, wanted.at, header);
-    let t = unpack::bytes(file, h.at, trailer);
-    let values = wanted.values;
-    Outcome {
-        agrees: (h.count == count(values[0])) & (t.count == count(values[2])),
-        end: t.at,
-    }
-}
-
-fn tally_built(counts: &mut [usize], rows: &[u32], wanted: Wanted, agrees: bool) {
-    let values = wanted.values;
-    counts::add(counts, counts::BUILT, 1);
-    counts::add_kind(
-        counts,
-        counts::BUILT_KINDS,
-        is_set(rows, SOUND),
-        is_set(rows, CRC),
-    );
-    if agrees {
-        counts::add(counts, counts::BYTES, count(values[0]));
-        counts::add(counts, counts::BYTES, count(values[2]));
-    }
-}
-
-fn tally(counts: &mut [usize], rows: &[u32], wanted: Wanted, agrees: bool) {
-    counts::add(counts, count(wanted.number), 1);
-    counts::add_if(counts, counts::ALONE, wanted.alone);
-    counts::add_if(counts, counts::BUILDS_AGREE, agrees);
-    if wanted.number == 0 {
-        tally_built(counts, rows, wanted, agrees);
-        return;
-    }
-    counts::add(counts, counts::REFUSED, 1);
 }
 
 // Whether it is built as recorded: the answer, and both buffers; and so with records.
 fn is_built(
-    counts: &mut [usize],
-    rows: &[u32],
-    raw: &[u8],
-    lists: Lists,
+    alloc: Global,
+    counts: &mut Counts,
+    inputs: Inputs,
     wanted: Wanted,
-    header: &mut [u8],
-    trailer: &mut [u8],
-    wanted_header: &[u8],
-    wanted_trailer: &[u8],
-) -> bool {
-    let given = inputs::build(rows, raw, lists, header, trailer);
-    let with_records = by_records::agrees(counts, rows, raw, lists, given, header, trailer);
-    answer::holds(wanted, given, header.len(), trailer.len())
-        & same(header, wanted_header)
-        & same(trailer, wanted_trailer)
-        & with_records
+    sides: &mut Sides,
+    wanted_sides: &Sides,
+) -> Result<bool, AllocError> {
+    let header_room = sides.header.len();
+    let trailer_room = sides.trailer.len();
+    let given = inputs.build(&mut sides.header, &mut sides.trailer);
+    let with_records = by_records::agrees(alloc, counts, inputs, given, sides)?;
+    Ok(with_records && wanted.holds(given, header_room, trailer_room) && *sides == *wanted_sides)
 }
 
-// The buffers hold FILL, those for the recorded header and trailer too, which are as long.
 fn compare(
-    file: &[u8],
-    counts: &mut [usize],
-    rows: &[u32],
-    raw: &[u8],
+    alloc: Global,
+    numbers: &mut Numbers,
+    counts: &mut Counts,
+    inputs: Inputs,
     wanted: Wanted,
-    header: &mut [u8],
-    trailer: &mut [u8],
-    wanted_header: &mut [u8],
-    wanted_trailer: &mut [u8],
-) -> Outcome {
-    let lists = inputs::find(rows);
-    let refused = refused_short(counts, rows, raw, lists, wanted, header, trailer);
-    let stay = same(header, wanted_header) & same(trailer, wanted_trailer);
-    let found = recorded(file, wanted, wanted_header, wanted_trailer);
-    let built = is_built(
-        counts,
-        rows,
-        raw,
-        lists,
-        wanted,
-        header,
-        trailer,
-        wanted_header,
-        wanted_trailer,
-    );
-    Outcome {
-        agrees: refused & stay & found.agrees & built,
-        end: found.end,
-    }
+) -> Result<bool, AllocError> {
+    let mut sides = Sides::new(alloc)?;
+    let mut wanted_sides = Sides::new(alloc)?;
+    let refused = refused_short(counts, inputs, wanted, &mut sides);
+    let stay = sides == wanted_sides;
+    let found = recorded(numbers, wanted, &mut wanted_sides);
+    let built = is_built(alloc, counts, inputs, wanted, &mut sides, &wanted_sides)?;
+    Ok(refused && stay && found && built)
 }
 
-fn counted(
-    file: &[u8],
-    at: usize,
-    counts: &mut [usize],
-    rows: &[u32],
-    raw: &[u8],
-    header: &mut [u8],
-    trailer: &mut [u8],
-    wanted_header: &mut [u8],
-    wanted_trailer: &mut [u8],
-) -> Outcome {
-    let wanted = answer::read(file, at);
-    let o = compare(
-        file,
-        counts,
-        rows,
-        raw,
-        wanted,
-        header,
-        trailer,
-        wanted_header,
-        wanted_trailer,
-    );
-    tally(counts, rows, wanted, o.agrees);
-    o
-}
-
-// The raw bytes behind the words, by way of the rows: there is no room for others beside these.
-fn unpack_raw(file: &[u8], at: usize, rows: &mut [u32], raw: &mut [u8]) -> Unpacked {
-    let words = unpack::words(file, at, rows);
-    unpack::bytes_by(file, words.at, rows, raw)
-}
-
-// The record at `at`, behind its kind.
+// The recorded answer of these inputs, which stands behind them. Whether all is as recorded.
 pub(crate) fn run(
-    file: &[u8],
-    at: usize,
-    counts: &mut [usize],
-    rows: &mut [u32],
-    raw: &mut [u8],
-    header: &mut [u8],
-    trailer: &mut [u8],
-    wanted_header: &mut [u8],
-    wanted_trailer: &mut [u8],
-) -> Outcome {
-    let in_raw = unpack_raw(file, at, rows, raw);
-    unpack::words(file, at, rows);
-    counted(
-        file,
-        in_raw.at,
-        counts,
-        rows,
-        buffers::front(raw, in_raw.count),
-        header,
-        trailer,
-        wanted_header,
-        wanted_trailer,
-    )
+    alloc: Global,
+    numbers: &mut Numbers,
+    counts: &mut Counts,
+    inputs: Inputs,
+) -> Result<bool, AllocError> {
+    let recorded = answer::read(numbers);
+    let agrees = compare(alloc, numbers, counts, inputs, recorded.wanted)?;
+    tally(counts, inputs.words, recorded, agrees);
+    Ok(agrees)
 }

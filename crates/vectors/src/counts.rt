@@ -1,86 +1,70 @@
-// What is counted: refusals by their numbers, and from 64 on what else there is.
-use crate::number::plus;
+// What is counted: refusals by their numbers, which are below 64, and from there on what else there is.
+const ROOM: usize = 89;
 
-pub const ROOM: usize = 89;
-
-pub const BUILT: usize = 64;
-
-pub const REFUSED: usize = 65;
-
-pub const BUILDS_AGREE: usize = 66;
-
-// Bytes of headers and trailers as recorded.
-pub const BYTES: usize = 67;
-
-// Builds with a buffer that is one byte short, refused as they are to be.
-pub const SHORT: usize = 68;
-
-pub const QUERIES: usize = 69;
-
-pub const QUERIES_AGREE: usize = 70;
-
-pub const FILLED: usize = 71;
-
-pub const NOT_FILLED: usize = 72;
-
-pub const READS_AGREE: usize = 73;
-
-// Bytes filled as recorded.
-pub const FILLED_BYTES: usize = 74;
-
-// Answers that are by document 01 alone.
-pub const ALONE: usize = 75;
-
-// Builds that are built, of DSD; of DST and of DST with CRCs at the next two.
-pub const BUILT_KINDS: usize = 76;
-
-// Windows, likewise.
-pub const WINDOW_KINDS: usize = 79;
-
-// Builds with custom markers.
-pub const CUSTOM: usize = 82;
-
-// Of these, the ones that were built with records too; and those that were so as by rows.
-pub const BY_RECORDS: usize = 83;
-
-pub const RECORDS_AGREE: usize = 84;
-
-// And why the others were not.
-pub const WORDS_AT_FAULT: usize = 85;
-
-pub const ROW_CUT_SHORT: usize = 86;
-
-pub const NO_SUCH_KIND: usize = 87;
-
-pub const TOO_MANY: usize = 88;
-
-// One more of this kind of sound, where the first kind is counted at k.
-pub(crate) fn add_kind(counts: &mut [usize], k: usize, dst: bool, crc: bool) {
-    if !dst {
-        add(counts, k, 1);
-    } else if crc {
-        add(counts, plus(k, 2), 1);
-    } else {
-        add(counts, plus(k, 1), 1);
-    }
+#[derive(Clone, Copy)]
+pub enum Count {
+    Built = 64,
+    Refused,
+    BuildsAgree,
+    Bytes, // of headers and trailers as recorded
+    Short, // builds with a buffer that is one byte short, refused as they are to be
+    Queries,
+    QueriesAgree,
+    Filled,
+    NotFilled,
+    ReadsAgree,
+    FilledBytes, // as recorded
+    Alone, // answers that are by document 01 alone
+    BuiltDsd, // builds that are built, by the kind of sound
+    BuiltDst,
+    BuiltDstWithCrcs,
+    WindowsDsd, // windows, likewise
+    WindowsDst,
+    WindowsDstWithCrcs,
+    Custom, // builds with custom markers
+    ByRecords, // of these, the ones that were built with records too
+    RecordsAgree, // and those that were so as by rows
+    WordsAtFault, // and why the others were not
+    RowCutShort,
+    NoSuchKind,
+    TooMany,
 }
 
-pub(crate) fn add(counts: &mut [usize], k: usize, n: usize) {
-    if k < counts.len() {
-        counts[k] = plus(counts[k], n);
-    }
+#[derive(Drop)]
+pub struct Counts {
+    counts: [usize; ROOM],
 }
 
-// One more if it is so.
-pub(crate) fn add_if(counts: &mut [usize], k: usize, is: bool) {
-    if is {
-        add(counts, k, 1);
+impl Counts {
+    pub(crate) fn new() -> Counts {
+        Counts { counts: [0; ROOM] }
     }
-}
 
-pub(crate) fn get(counts: &[usize], k: usize) -> usize {
-    if k < counts.len() {
-        return counts[k];
+    pub(crate) fn get(&self, k: Count) -> usize {
+        self.counts[k as usize]
     }
-    0
+
+    pub(crate) fn refusals(&self) -> &[usize] {
+        &self.counts[..Count::Built as usize]
+    }
+
+    pub(crate) fn add(&mut self, k: Count, n: usize) {
+        let k = k as usize;
+        self.counts[k] = self.counts[k].saturating_add(n);
+    }
+
+    // One more if it is so.
+    pub(crate) fn add_if(&mut self, k: Count, is: bool) {
+        if is {
+            self.add(k, 1);
+        }
+    }
+
+    // One more of this refusal.
+    pub(crate) fn add_refusal(&mut self, number: u64) {
+        if number < ROOM as u64 {
+            let k = number as usize;
+            self.counts[k] = self.counts[k].saturating_add(1);
+        }
+    }
 }

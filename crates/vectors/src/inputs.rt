@@ -1,53 +1,56 @@
 // The inputs of a build, and the build.
-use crate::lists;
-use crate::lists::list;
+use crate::lists::first;
 use build_answer::answer::Answer;
 
 // How many words a build has before its lists.
-pub const WORDS: usize = 67;
+const WORDS: usize = 67;
 
-// Where the counts of the lists behind the pool stand.
 #[derive(Clone, Copy)]
-pub struct Lists {
-    pub tracks: usize,
-    pub markers: usize,
-    pub comments: usize,
-    pub callers: usize,
-    pub lengths: usize,
+pub struct Inputs<'a> {
+    pub words: &'a [u32],
+    pub pool: &'a [u32],
+    pub raw: &'a [u8],
+    pub tracks: &'a [u32],
+    pub markers: &'a [u32],
+    pub comments: &'a [u32],
+    pub callers: &'a [u32],
+    pub lengths: &'a [u32],
 }
 
-pub(crate) fn find(rows: &[u32]) -> Lists {
-    let tracks = lists::end(rows, WORDS);
-    let markers = lists::end(rows, tracks);
-    let comments = lists::end(rows, markers);
-    let callers = lists::end(rows, comments);
-    Lists {
-        tracks: tracks,
-        markers: markers,
-        comments: comments,
-        callers: callers,
-        lengths: lists::end(rows, callers),
+impl<'a> Inputs<'a> {
+    // The words, with the lists behind them, and the raw bytes.
+    pub(crate) fn new(rows: &'a [u32], raw: &'a [u8]) -> Inputs<'a> {
+        let (words, rows) = rows.split_at_checked(WORDS).unwrap_or_default();
+        let (pool, rows) = first(rows);
+        let (tracks, rows) = first(rows);
+        let (markers, rows) = first(rows);
+        let (comments, rows) = first(rows);
+        let (callers, rows) = first(rows);
+        let (lengths, _) = first(rows);
+        Inputs {
+            words,
+            pool,
+            raw,
+            tracks,
+            markers,
+            comments,
+            callers,
+            lengths,
+        }
     }
-}
 
-// Only the first 67 words count as the words of the build.
-pub(crate) fn build(
-    rows: &[u32],
-    raw: &[u8],
-    lists: Lists,
-    header: &mut [u8],
-    trailer: &mut [u8],
-) -> Answer {
-    word_builds::build::build(
-        lists::part(rows, 0, WORDS),
-        list(rows, WORDS),
-        raw,
-        list(rows, lists.tracks),
-        list(rows, lists.markers),
-        list(rows, lists.comments),
-        list(rows, lists.callers),
-        list(rows, lists.lengths),
-        header,
-        trailer,
-    )
+    pub(crate) fn build(self, header: &mut [u8], trailer: &mut [u8]) -> Answer {
+        word_builds::build::build(
+            self.words,
+            self.pool,
+            self.raw,
+            self.tracks,
+            self.markers,
+            self.comments,
+            self.callers,
+            self.lengths,
+            header,
+            trailer,
+        )
+    }
 }

@@ -1,59 +1,71 @@
-// Numbers of the file. What stands past the end of the file counts as 0.
+// Numbers of the file. What stands past the end of a record counts as 0.
 
-// More than any file here has bytes.
+// More than any list or file here has.
 pub const PAST: usize = 0x4000_0000;
 
 // A number of more bits than 64 is none.
 const ROOM_FOR_SEVEN_BITS: u64 = 0x200_0000_0000_0000;
 
-// A number, and where the file goes on, PAST if it ends before.
-#[derive(Clone, Copy)]
-pub struct Number {
-    pub value: u64,
-    pub at: usize,
-}
-
-impl Number {
-    // As a place or a count.
-    pub(crate) fn count(self) -> usize {
-        count(self.value)
-    }
-}
-
+// As a place or a count.
 pub(crate) fn count(n: u64) -> usize {
-    if n < PAST as u64 {
-        return n as usize;
-    }
-    PAST
+    n.min(PAST as u64) as usize
 }
 
-// The sum of places or counts, PAST where one of them is as much.
-pub(crate) fn plus(a: usize, b: usize) -> usize {
-    if a >= PAST {
-        return PAST;
-    }
-    if b >= PAST {
-        return PAST;
-    }
-    a + b
-}
-
-pub(crate) fn take(file: &[u8], at: usize) -> Number {
+// The first number, and what follows it, if the file does not end before.
+fn first(file: &[u8]) -> Option<(u64, &[u8])> {
     let mut value = 0;
-    let mut i = at;
-    while i < file.len() {
-        let b = file[i];
-        i += 1;
+    for (i, b) in file.iter().enumerate() {
         if value >= ROOM_FOR_SEVEN_BITS {
-            break;
+            return None;
         }
-        value = value * 0x80 + (b % 0x80) as u64;
-        if b < 0x80 {
-            return Number {
-                value: value,
-                at: i,
-            };
+        value = value * 0x80 + u64::from(*b % 0x80);
+        if *b < 0x80 {
+            return Some((value, &file[i + 1..]));
         }
     }
-    Number { value: 0, at: PAST }
+    None
+}
+
+// The numbers that are left of a record.
+#[derive(Clone, Copy)]
+pub struct Numbers<'a> {
+    // Nothing once the record was found to end before its last number.
+    rest: Option<&'a [u8]>,
+}
+
+impl<'a> Numbers<'a> {
+    pub(crate) fn new(file: &'a [u8]) -> Numbers<'a> {
+        Numbers { rest: Some(file) }
+    }
+
+    pub(crate) fn take(&mut self) -> u64 {
+        match self.rest.and_then(first) {
+            Some((value, rest)) => {
+                self.rest = Some(rest);
+                value
+            }
+            None => {
+                self.rest = None;
+                0
+            }
+        }
+    }
+
+    pub(crate) fn take_count(&mut self) -> usize {
+        count(self.take())
+    }
+
+    pub(crate) fn take_switch(&mut self) -> bool {
+        self.take() != 0
+    }
+
+    // Ends the record here, before its last number.
+    pub(crate) fn end(&mut self) {
+        self.rest = None;
+    }
+
+    // How many bytes are left of the file, if the record does not end too early.
+    pub(crate) fn left(&self) -> Option<usize> {
+        self.rest.map(|rest| rest.len())
+    }
 }

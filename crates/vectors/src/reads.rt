@@ -1,11 +1,11 @@
 // A recorded window, asked and read again.
-use crate::buffers::{FILL, front, same};
-use crate::builds::Outcome;
-use crate::file::File;
-use crate::number::{count, plus, take};
+use crate::buffers::{FILL, front};
+use crate::counts::{Count, Counts};
+use crate::file::{Ends, File};
+use crate::number::{Numbers, count};
 use crate::recorded_window::Window;
-use crate::unpack::Unpacked;
-use crate::{counts, frames, lists, recorded_window, unpack};
+use crate::{frames, recorded_window, unpack};
+use prop_fields::compression::Sound;
 use read_answer::answer::ReadAnswer;
 
 // Bytes of a channel's content.
@@ -19,181 +19,112 @@ const FRAMES: usize = 70_000;
 const CONTENTS: usize = 90_000;
 
 // Whether the query is answered as recorded: only 42 refuses one.
-fn is_asked(f: File, lengths: &[u32], w: Window) -> bool {
-    let given = file_query::query::query(f.format, lengths, f.header, f.trailer, w.offset, w.room);
-    let answered = given.values();
-    if w.number == 42 {
-        return (given.number() == 42) & (answered[0] == 0) & (answered[1] == 0);
+fn is_asked(f: File, w: Window) -> bool {
+    let given = file_query::query::query(
+        f.format, f.lengths, f.header, f.trailer, w.offset, w.room,
+    );
+    if w.refusal == Some(42) {
+        given.number() == 42 && given.values() == [0, 0]
+    } else {
+        given.number() == 0 && given.values() == [w.first, w.end]
     }
-    (given.number() == 0) & (answered[0] == w.first) & (answered[1] == w.end)
 }
 
-fn call(
-    f: File,
-    lengths: &[u32],
-    header: &[u8],
-    trailer: &[u8],
-    w: Window,
-    out: &mut [u8],
-) -> ReadAnswer {
-    let format = f.format;
+fn call(f: File, ends: Ends, w: Window, out: &mut [u8]) -> ReadAnswer {
     let first = count(w.first);
     let end = count(w.end);
-    let mut dst = [0u8; FRAMES];
-    frames::frames(&mut dst, f.seed, lengths, first, end);
-    let mut contents = [0u8; CONTENTS];
-    frames::contents(
-        &mut contents,
-        f.seed,
-        first,
-        end,
-        format.channels as usize * FRAME,
-    );
+    let mut dst = [0; FRAMES];
+    frames::frames(&mut dst, f.seed, f.lengths, first, end);
+    let mut contents = [0; CONTENTS];
+    let length = f.format.channels as usize * FRAME;
+    frames::contents(&mut contents, f.seed, first, end, length);
     file_read::read::read(
-        format,
-        lengths,
-        front(header, count(f.header)),
-        front(trailer, count(f.trailer)),
+        f.format,
+        f.lengths,
+        ends.header,
+        ends.trailer,
         w.offset,
-        lists::part(lengths, first, plus(first, w.lent)),
+        f.lengths
+            .get(first..first.saturating_add(w.lent))
+            .unwrap_or_default(),
         front(&dst, w.frames),
         front(&contents, w.contents),
         out,
     )
 }
 
-// The bytes that are recorded, into a buffer.
-fn recorded(file: &[u8], w: Window, wanted: &mut [u8]) -> Unpacked {
-    if w.number != 0 {
-        return Unpacked { at: w.at, count: 0 };
-    }
-    unpack::bytes(file, w.at, wanted)
-}
-
-fn answers(
-    f: File,
-    lengths: &[u32],
-    header: &[u8],
-    trailer: &[u8],
-    w: Window,
-    filled: usize,
-    out: &mut [u8],
-) -> bool {
-    let room = count(w.room);
-    if room > out.len() {
-        return false;
-    }
-    let given = call(f, lengths, header, trailer, w, &mut out[0..room]);
-    (given.number() as u64 == w.number) & (given.value() == filled as u64)
-}
-
-// Whether the read fills what is recorded and leaves the rest of a buffer of FILL; so is the one for what is recorded, which is as long. Where the record ends.
-fn fills(
-    file: &[u8],
-    counts: &mut [usize],
-    f: File,
-    lengths: &[u32],
-    header: &[u8],
-    trailer: &[u8],
-    w: Window,
-    out: &mut [u8],
-    wanted: &mut [u8],
-) -> Outcome {
-    let found = recorded(file, w, wanted);
-    let agrees = answers(f, lengths, header, trailer, w, found.count, out) & same(out, wanted);
-    if agrees {
-        counts::add(counts, counts::FILLED_BYTES, found.count);
-    }
-    Outcome {
-        agrees: agrees,
-        end: found.at,
+// The bytes that are recorded, into a buffer. How many, if they are bytes.
+fn recorded(numbers: &mut Numbers, w: Window, wanted: &mut [u8]) -> Option<usize> {
+    match w.refusal {
+        None => unpack::bytes(numbers, wanted),
+        Some(_) => Some(0),
     }
 }
 
-fn read(
-    file: &[u8],
-    counts: &mut [usize],
-    f: File,
-    lengths: &[u32],
-    header: &[u8],
-    trailer: &[u8],
-    w: Window,
-) -> Outcome {
+fn answers(f: File, ends: Ends, w: Window, filled: usize, out: &mut [u8]) -> bool {
+    match out.get_mut(..count(w.room)) {
+        Some(out) => {
+            let given = call(f, ends, w, out);
+            u64::from(given.number()) == w.refusal.unwrap_or(0) && given.value() == filled as u64
+        }
+        None => false,
+    }
+}
+
+// Whether the read fills what is recorded and leaves the rest of a buffer of FILL.
+fn fills(numbers: &mut Numbers, counts: &mut Counts, f: File, ends: Ends, w: Window) -> bool {
     let mut out = [FILL; ROOM];
     let mut wanted = [FILL; ROOM];
-    let o = fills(
-        file,
-        counts,
-        f,
-        lengths,
-        header,
-        trailer,
-        w,
-        &mut out,
-        &mut wanted,
-    );
-    counts::add_if(counts, counts::FILLED, w.number == 0);
-    counts::add_if(counts, counts::NOT_FILLED, w.number != 0);
-    counts::add_if(counts, counts::READS_AGREE, o.agrees);
-    o
-}
-
-// Whether the query is as recorded.
-fn query(counts: &mut [usize], f: File, lengths: &[u32], w: Window) -> bool {
-    let agrees = is_asked(f, lengths, w);
-    counts::add(counts, counts::QUERIES, 1);
-    counts::add_if(counts, counts::QUERIES_AGREE, agrees);
-    counts::add_if(counts, counts::ALONE, w.alone);
-    counts::add(counts, count(w.number), 1);
-    counts::add_kind(counts, counts::WINDOW_KINDS, f.dst, f.format.crc);
+    let Some(filled) = recorded(numbers, w, &mut wanted) else {
+        return false;
+    };
+    let agrees = answers(f, ends, w, filled, &mut out) && out == wanted;
+    if agrees {
+        counts.add(Count::FilledBytes, filled);
+    }
     agrees
 }
 
-fn run_one(
-    file: &[u8],
-    at: usize,
-    counts: &mut [usize],
-    f: File,
-    lengths: &[u32],
-    header: &[u8],
-    trailer: &[u8],
-) -> Outcome {
-    let w = recorded_window::read(file, at);
-    let asked = query(counts, f, lengths, w);
-    if !f.has_bytes {
-        return Outcome {
-            agrees: asked,
-            end: w.at,
-        };
+fn read(numbers: &mut Numbers, counts: &mut Counts, f: File, ends: Ends, w: Window) -> bool {
+    let agrees = fills(numbers, counts, f, ends, w);
+    counts.add_if(Count::Filled, w.refusal.is_none());
+    counts.add_if(Count::NotFilled, w.refusal.is_some());
+    counts.add_if(Count::ReadsAgree, agrees);
+    agrees
+}
+
+// Whether the query is as recorded.
+fn query(counts: &mut Counts, f: File, w: Window) -> bool {
+    let agrees = is_asked(f, w);
+    counts.add(Count::Queries, 1);
+    counts.add_if(Count::QueriesAgree, agrees);
+    counts.add_if(Count::Alone, w.alone);
+    if let Some(number) = w.refusal {
+        counts.add_refusal(number);
     }
-    let o = read(file, counts, f, lengths, header, trailer, w);
-    Outcome {
-        agrees: asked & o.agrees,
-        end: o.end,
+    let kind = match f.format.sound {
+        Sound::Dsd => Count::WindowsDsd,
+        Sound::Dst if f.format.crc => Count::WindowsDstWithCrcs,
+        Sound::Dst => Count::WindowsDst,
+    };
+    counts.add(kind, 1);
+    agrees
+}
+
+fn run_one(numbers: &mut Numbers, counts: &mut Counts, f: File, ends: Option<Ends>) -> bool {
+    let w = recorded_window::read(numbers);
+    let asked = query(counts, f, w);
+    match ends {
+        Some(ends) => read(numbers, counts, f, ends, w) && asked,
+        None => asked,
     }
 }
 
-// The windows of a file.
-pub(crate) fn run(
-    file: &[u8],
-    counts: &mut [usize],
-    f: File,
-    lengths: &[u32],
-    header: &[u8],
-    trailer: &[u8],
-) -> Outcome {
-    let windows = take(file, f.at);
+// The windows of a file. Whether all are as recorded.
+pub(crate) fn run(numbers: &mut Numbers, counts: &mut Counts, f: File, ends: Option<Ends>) -> bool {
     let mut agrees = true;
-    let mut at = windows.at;
-    let mut left = windows.count();
-    while left > 0 {
-        let o = run_one(file, at, counts, f, lengths, header, trailer);
-        agrees = agrees & o.agrees;
-        at = o.end;
-        left -= 1;
+    for _ in 0..numbers.take_count() {
+        agrees = run_one(numbers, counts, f, ends) && agrees;
     }
-    Outcome {
-        agrees: agrees,
-        end: at,
-    }
+    agrees
 }

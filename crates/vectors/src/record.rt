@@ -1,9 +1,10 @@
 // A record of any kind.
-use crate::buffers::FILL;
-use crate::builds::Outcome;
-use crate::file::LENGTHS;
-use crate::number::{PAST, take};
-use crate::{builds, file, lists, reads, unpack};
+use crate::buffers::{FILL, SIDE, front};
+use crate::counts::Counts;
+use crate::file::Ends;
+use crate::inputs::Inputs;
+use crate::number::{Numbers, count};
+use crate::{builds, file, reads, unpack};
 use std::alloc::{AllocError, Global};
 
 // Room for the words of a build, and for its raw bytes: a text of 1,048,577 elements, one more than a build takes.
@@ -11,78 +12,54 @@ const WORDS: usize = 1_050_000;
 
 const RAW: usize = 1_050_000;
 
-// Room for a header.
-pub const ROOM: usize = 66_560;
-
-// Room for a trailer, and for the two sides of a file that is read.
-pub const SIDE: usize = 8_192;
-
 const FILE_WORDS: usize = 2_048;
 
-// The two longest tables are on the heap: with all that the calls below hold, they are more than a stack of 8 MiB has room for.
-fn build(
-    alloc: Global,
-    file: &[u8],
-    at: usize,
-    counts: &mut [usize],
-) -> Result<Outcome, AllocError> {
+// The two longest tables, of 5.2 MB, are on the heap, to keep the stack small. The raw bytes stand behind the words and are
+// unpacked by way of the rows, so the words come again after them.
+fn build(alloc: Global, numbers: &mut Numbers, counts: &mut Counts) -> Result<bool, AllocError> {
     let mut rows = vec![in alloc; 0u32; WORDS]?;
     let mut raw = vec![in alloc; 0u8; RAW]?;
-    let mut header = [FILL; ROOM];
-    let mut trailer = [FILL; SIDE];
-    let mut wanted_header = [FILL; ROOM];
-    let mut wanted_trailer = [FILL; SIDE];
-    Ok(builds::run(
-        file,
-        at,
-        counts,
-        &mut rows,
-        &mut raw,
-        &mut header,
-        &mut trailer,
-        &mut wanted_header,
-        &mut wanted_trailer,
-    ))
+    let mut words = *numbers;
+    unpack::words(numbers, &mut rows);
+    let in_raw = unpack::bytes_by(numbers, &mut rows, &mut raw);
+    unpack::words(&mut words, &mut rows);
+    let raw = match in_raw {
+        Some(n) => front(&raw, n),
+        None => &raw[..0],
+    };
+    builds::run(alloc, numbers, counts, Inputs::new(&rows, raw))
 }
 
-fn windows(file: &[u8], at: usize, counts: &mut [usize]) -> Outcome {
+fn windows(numbers: &mut Numbers, counts: &mut Counts) -> bool {
     let mut rows = [0u32; FILE_WORDS];
     let mut header = [FILL; SIDE];
     let mut trailer = [FILL; SIDE];
-    let words = unpack::words(file, at, &mut rows);
-    let f = file::read(file, words.at, &rows, &mut header, &mut trailer);
-    reads::run(
-        file,
-        counts,
-        f,
-        lists::list(&rows, LENGTHS),
-        &header,
-        &trailer,
-    )
+    unpack::words(numbers, &mut rows);
+    let f = file::read(numbers, &rows);
+    let has_bytes = numbers.take_switch();
+    if has_bytes {
+        unpack::bytes(numbers, &mut header);
+        unpack::bytes(numbers, &mut trailer);
+    }
+    let ends = Ends {
+        header: front(&header, count(f.header)),
+        trailer: front(&trailer, count(f.trailer)),
+    };
+    reads::run(numbers, counts, f, has_bytes.then_some(ends))
 }
 
-fn of_kind(alloc: Global, file: &[u8], counts: &mut [usize]) -> Result<Outcome, AllocError> {
-    let kind = take(file, 0);
-    if kind.value == 0 {
-        return build(alloc, file, kind.at, counts);
+// The record that stands at the beginning. Whether all is as recorded.
+pub(crate) fn run(
+    alloc: Global,
+    numbers: &mut Numbers,
+    counts: &mut Counts,
+) -> Result<bool, AllocError> {
+    match numbers.take() {
+        0 => build(alloc, numbers, counts),
+        1 => Ok(windows(numbers, counts)),
+        _ => {
+            numbers.end();
+            Ok(false)
+        }
     }
-    if kind.value == 1 {
-        return Ok(windows(file, kind.at, counts));
-    }
-    Ok(Outcome {
-        agrees: false,
-        end: PAST,
-    })
-}
-
-// The record that stands at the beginning of the file, which does not end before it.
-pub(crate) fn run(alloc: Global, file: &[u8], counts: &mut [usize]) -> Result<Outcome, AllocError> {
-    let o = of_kind(alloc, file, counts)?;
-    if o.end <= file.len() {
-        return Ok(o);
-    }
-    Ok(Outcome {
-        agrees: false,
-        end: PAST,
-    })
 }

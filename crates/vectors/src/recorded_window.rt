@@ -1,8 +1,8 @@
 // A recorded window.
-use crate::number::take;
+use crate::number::Numbers;
 
-// From the file's byte `offset` on so many bytes; the positions needed, the first and one past the last; how many lengths, bytes of DST frames and bytes of content
-// are lent; whether the answer is by document 01 alone; the number of the refusal, 0 for none; and where the file goes on.
+// From the file's byte `offset` on so many bytes; the positions needed, the first and one past the last; how many lengths,
+// bytes of DST frames and bytes of content are lent; whether the answer is by document 01 alone; the number of the refusal.
 #[derive(Clone, Copy)]
 pub struct Window {
     pub offset: u64,
@@ -13,30 +13,22 @@ pub struct Window {
     pub frames: usize,
     pub contents: usize,
     pub alone: bool,
-    pub number: u64,
-    pub at: usize,
+    pub refusal: Option<u64>,
 }
 
-pub(crate) fn read(file: &[u8], at: usize) -> Window {
-    let offset = take(file, at);
-    let room = take(file, offset.at);
-    let first = take(file, room.at);
-    let end = take(file, first.at);
-    let lent = take(file, end.at);
-    let frames = take(file, lent.at);
-    let contents = take(file, frames.at);
-    let alone = take(file, contents.at);
-    let refusal = take(file, alone.at);
+pub(crate) fn read(numbers: &mut Numbers) -> Window {
     Window {
-        offset: offset.value,
-        room: room.value,
-        first: first.value,
-        end: end.value,
-        lent: lent.count(),
-        frames: frames.count(),
-        contents: contents.count(),
-        alone: alone.value != 0,
-        number: refusal.value,
-        at: refusal.at,
+        offset: numbers.take(),
+        room: numbers.take(),
+        first: numbers.take(),
+        end: numbers.take(),
+        lent: numbers.take_count(),
+        frames: numbers.take_count(),
+        contents: numbers.take_count(),
+        alone: numbers.take_switch(),
+        refusal: match numbers.take() {
+            0 => None,
+            number => Some(number),
+        },
     }
 }

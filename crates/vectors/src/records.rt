@@ -1,77 +1,41 @@
 // The rows of custom markers as records.
-ghost use Rattle.std.specs.Prelude.{◌≤◌};
-
-use crate::number::plus;
 use dsdiff::Marker;
 use markers::marker::MarkerKind;
-use single_words::word::word;
+use std::alloc::{AllocError, Global};
 use texts::extent::Extent;
 
-// Room for as many as are recorded, one more than a build takes.
+// As many as are recorded, one more than a build takes.
 pub const MOST: usize = 65_536;
 
-// How many rows there are, no more than there is room for.
-pub(crate) fn count(rows: &[u32]) -> usize
-    ensures { result ≤ 65_536 }
-{
-    let n = rows.len() / 4;
-    if n > MOST {
-        return MOST;
-    }
-    n
-}
-
 fn kind(number: u32) -> MarkerKind {
-    if number == 0 {
-        return MarkerKind::TrackStart;
+    match number {
+        0 => MarkerKind::TrackStart,
+        1 => MarkerKind::TrackStop,
+        2 => MarkerKind::ProgramStart,
+        _ => MarkerKind::Index,
     }
-    if number == 1 {
-        return MarkerKind::TrackStop;
-    }
-    if number == 2 {
-        return MarkerKind::ProgramStart;
-    }
-    MarkerKind::Index
 }
 
 // Whether each row has a kind that records can tell.
 pub(crate) fn have_kinds(rows: &[u32]) -> bool {
-    let mut i = 0;
-    while i < rows.len() {
-        let number = rows[i] / 0x1_0000;
-        if (i % 4 == 1) & ((number == 3) | (number > 4)) {
-            return false;
-        }
-        i += 1;
-    }
-    true
+    rows.chunks(4).all(|row| match row {
+        [_, mixed, ..] => matches!(*mixed / 0x1_0000, 0..=2 | 4),
+        _ => true,
+    })
 }
 
-// The row at `at`.
-fn record(rows: &[u32], at: usize) -> Marker {
-    let mixed = word(rows, plus(at, 1));
+fn record(row: &[u32; 4]) -> Marker {
+    let [frame, mixed, start, length] = *row;
     Marker {
-        frame: word(rows, at),
+        frame,
         kind: kind(mixed / 0x1_0000),
         flags: (mixed % 0x1_0000) as u16,
-        text: Extent {
-            start: word(rows, plus(at, 2)),
-            length: word(rows, plus(at, 3)),
-        },
+        text: Extent { start, length },
     }
 }
 
-// Each row as a record; the first again where there are no more.
-pub(crate) fn records(rows: &[u32]) -> [Marker; MOST] {
-    let first = record(rows, 0);
-    let mut all = [first; MOST];
-    let n = rows.len() / 4;
-    let mut i = 0;
-    while i < n {
-        if i < MOST {
-            all[i] = record(rows, i * 4);
-        }
-        i += 1;
-    }
-    all
+// Each row as a record.
+pub(crate) fn records(alloc: Global, rows: &[u32]) -> Result<Vec<Marker>, AllocError> {
+    let (rows, _) = rows.as_chunks::<4>();
+    rows.iter().map(record).collect(alloc)
 }
