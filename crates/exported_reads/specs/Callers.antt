@@ -1,14 +1,12 @@
 -- DEMAND 3 FOR CALLERS OF THE EXPORTED FUNCTIONS, who know a number and values. A call of `jangqeruz_build` that answered 0 is an accepted build; calls of `jangqeruz_read` are calls of
 -- `read`, accepted where they answered 0, and `OldReaders` holds of them. (Any other number is a refusal's: specs/Refusals.antt.) Assumes nothing.
-use Rattle.std.specs.Prelude.{◌≡◌, cond, List, [], ◌∷◌, map, ℕ, eqb, length, take, get_or}
+use Rattle.std.specs.Prelude.{◌≡◌, Ok, cond, List, [], ◌∷◌, map, ℕ, eqb, length, take, get_or}
 use Rattle.chunk.specs.Append.{overlay}
 use Rattle.tree.specs.Gather.{Read, refused, accepted}
 use Rattle.dst.specs.Frame.{Frame}
-use Rattle.std.specs.Prelude.{Ok}
 use Rattle.build_options.specs.Inputs.{Inputs}
 use Rattle.words.specs.Inputs.{inputs_of_words}
 use Rattle.words.specs.Border.{words_fault}
-use Rattle.build_answer.specs.declared.answer.Answer.TheVariants.{Built}
 use Rattle.assemble.specs.Build.{Builds}
 use Rattle.file_read.specs.Read.{Request}
 use Rattle.abi.specs.Build.{Exported}
@@ -46,7 +44,7 @@ pub record Accepts (e : ExportedBuild) : Type 0 where
   pub header : ℕ
   pub sound : ℕ
   pub trailer : ℕ
-  pub promise : Builds (inputs_by e) e.header_before e.header_buffer e.trailer_before e.trailer_buffer (Built header sound trailer)
+  pub promise : Builds (inputs_by e) e.header_before e.header_buffer e.trailer_before e.trailer_buffer (Ok (record { header = header; sound = sound; trailer = trailer }))
   pub told : e.values ≡ overlay e.values_before 0 (header ∷ sound ∷ trailer ∷ [])
 
 abbrev pub build_of : (e : ExportedBuild) → Accepts e → AcceptedBuild
