@@ -14,7 +14,11 @@ pub(crate) const LONGEST_PLAYTIME: u32 = 1_151_999;
 fn lengths_wanted(area: Area) -> u32
     ensures { result ≡ lengths_wanted area }
 {
-    if is_dst(area.sound) { area.positions() } else { 0 }
+    if is_dst(area.sound) {
+        area.positions()
+    } else {
+        0
+    }
 }
 
 // 6 to 8
@@ -47,7 +51,10 @@ fn lengths_fault(area: Area, lengths: &[u32]) -> Verdict
 fn range_fault(area: Area) -> Verdict
     ensures { result ≡ range_fault area }
 {
-    refuse_if(area.end < area.first || area.playtime < area.end, Refusal::Range)?;
+    refuse_if(
+        area.end < area.first || area.playtime < area.end,
+        Refusal::Range,
+    )?;
     refuse_if(area.first == area.end, Refusal::EmptyRange)
 }
 

@@ -34,7 +34,10 @@ fn master_area_fault(area: Area, tracks: &[u32]) -> Verdict
     ensures { result ≡ master_area_fault area tracks.now }
 {
     let n = Row::Track.count(tracks);
-    refuse_if(area.first != 0 || area.end != area.playtime, Refusal::MasterRange)?;
+    refuse_if(
+        area.first != 0 || area.end != area.playtime,
+        Refusal::MasterRange,
+    )?;
     refuse_if(is_unspecified(area.layout), Refusal::MasterLayout)?;
     refuse_if(n == 0 || MOST_MASTER_TRACKS < n, Refusal::MasterTracks)
 }

@@ -21,7 +21,7 @@ pub struct Options {
     pub dst_crc: bool, // whether each DSTF is followed by DSTC
     pub dst_index: bool, // whether a DST file has DSTI
     pub dst_index_offset: DstIndexOffset,
-    pub source_track: u16, // from 1 on, 0 for none
+    pub source_track: u16, // from 1 on, 0 for none: a number, as the words tell it and `EveryWordExact` has it
     pub edited_master: bool,
     pub edited_master_info: bool, // whether there is a DIIN
     pub edited_master_id_written: bool, // whether DIIN has EMID

@@ -3,9 +3,11 @@ use crate::fill::fill;
 use crate::names::Target;
 use crate::part::split_name;
 use crate::{names, print};
+use build_options::inputs::Lent;
 use refusal::verdict::Verdict;
 use std::alloc::{AllocError, Global};
 use std::io;
+use texts::pools::Pools;
 
 pub const WORDS: usize = 67;
 
@@ -103,21 +105,23 @@ impl Case {
     }
 
     pub(crate) fn verdict(&self, alloc: Global) -> Result<Verdict, AllocError> {
-        let raw: Vec<u8> = self
+        let bytes: Vec<u8> = self
             .raw
             .iter()
             .take(BYTES)
             .map(|word| (*word % 0x100) as u8)
             .collect(alloc)?;
-        Ok(words::verdict::verdict(
-            &self.words,
-            &self.pool,
-            &raw,
-            &self.tracks,
-            &self.markers,
-            &self.comments,
-            &self.callers,
-            &self.lengths,
-        ))
+        let lent = Lent {
+            pools: Pools {
+                text: &self.pool,
+                bytes: &bytes,
+            },
+            tracks: &self.tracks,
+            markers: &self.markers,
+            comments: &self.comments,
+            callers: &self.callers,
+            lengths: &self.lengths,
+        };
+        Ok(words::verdict::verdict(&self.words, &lent))
     }
 }

@@ -1,5 +1,5 @@
 // Lines of the answer. The parts of the table need not be text, so they are written as bytes.
-use refusal::verdict::Verdict;
+use refusal::verdict::{Verdict, detail_of, number_of};
 use std::io;
 
 pub(crate) fn text(rt: &impl Print, line: &[u8]) -> io::Result<()> {
@@ -16,5 +16,5 @@ pub(crate) fn no_such_name(rt: &impl Print, name: &[u8]) -> io::Result<()> {
 // What is tried, and the number and the detail that are answered.
 pub(crate) fn line(rt: &impl Print, label: &[u8], v: Verdict) -> io::Result<()> {
     rt.write_all(label)?;
-    println!(rt; ": {} {}", v.number(), v.detail())
+    println!(rt; ": {} {}", number_of(v), detail_of(v))
 }

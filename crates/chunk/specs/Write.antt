@@ -1,5 +1,5 @@
 -- What a writer's closure appends. Assumes nothing.
-use Rattle.std.specs.Prelude.{◌≡◌, List, ℕ}
+use Rattle.std.specs.Prelude.{List, ℕ}
 use denote.Ref.{MutBor}
 use Rattle.chunk.specs.Append.{Appended}
 use Rattle.chunk.specs.declared.cursor.Cursor.{Cursor}

@@ -13,5 +13,5 @@ pub mapped : {F A B : Type 0} {g : Mut F (A × Unit {0}) B} {f : F} {xs : List A
 mapped {xs = xs} {ys = ys} h made long d gives =
     ext_get_or (h d) ys (map h xs) (made.long ∙ sym long ∙ sym (length-map xs h))
     (λ i l.
-      let c = made.at i d (h d) (omega (arith, made.long)) in
-      gives c.0 c.1 _ _ c.2 ∙ sym (get_or-map h xs i d))
+    let c = made.at i d (h d) (omega (arith, made.long)) in
+    gives c.0 c.1 _ _ c.2 ∙ sym (get_or-map h xs i d))

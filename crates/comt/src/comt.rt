@@ -25,7 +25,7 @@ pub struct Comment {
     pub day: u32,
     pub hour: u32,
     pub minutes: u32,
-    pub kind: u32, // 0 general, 1 channel, 2 sound source, 3 file history
+    pub kind: u32, // 0 general, 1 channel, 2 sound source, 3 file history; as told, since 35 has to see any other
     pub reference: u32,
     pub text: Extent,
 }
@@ -84,17 +84,10 @@ pub fn comt(c: Cursor, out: &mut [u8], pool: &[u32], rows: &[u32], options: Text
     if !((count != 0) & (count <= MOST_COMMENTS)) {
         return c;
     }
-    let size_at = c.name(out, *b"COMT");
-    let from = size_at.data_start(out.len());
-    let end = comt_data(
-        Cursor::new(),
-        &mut out[from..],
-        count as u16,
-        pool,
-        rows,
-        options,
-    );
-    size_at.close(out, end)
+    let told = count as u16;
+    c.chunk_of(out, *b"COMT", |c, out| {
+        comt_data(c, out, told, pool, rows, options)
+    })
 }
 
 // The data: the count, and the comments.

@@ -20,10 +20,7 @@ fn rate(c: Cursor, out: &mut [u8], frames: u32) -> Cursor
 fn frte(c: Cursor, out: &mut [u8], frames: u32) -> Cursor
     ensures { Appended out.old c.at (frte frames) out.new result.at }
 {
-    let size_at = c.name(out, *b"FRTE");
-    let from = size_at.data_start(out.len());
-    let end = rate(Cursor::new(), &mut out[from..], frames);
-    size_at.close(out, end)
+    c.chunk_of(out, *b"FRTE", |c, out| rate(c, out, frames))
 }
 
 // The header of the DST chunk, and FRTE, of so many frames whose units have so many bytes together.

@@ -9,6 +9,7 @@ use chunk::chunks::occupied;
 
 // Bytes of a DSTC chunk, and of FRTE.
 const DSTC: u64 = 16;
+
 const FRTE: u64 = 18;
 
 // The units of so many frames, however long, have fewer than 2^63 bytes.

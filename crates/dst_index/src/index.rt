@@ -65,6 +65,7 @@ pub fn dsti(
 ) -> Cursor
     ensures { Appended out.old c.at (dsti crc (moved base (shift_of offset)) lengths.now) out.new result.at }
 {
+    // Not by `chunk_of`, which says nothing of data of 2^64 bytes: the entries of so many frames are more.
     let size_at = c.name(out, *b"DSTI");
     let from = size_at.data_start(out.len());
     let end = dsti_data(Cursor::new(), &mut out[from..], crc, offset, base, lengths);

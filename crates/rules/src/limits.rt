@@ -26,10 +26,8 @@ const ANY: u64 = u64::MAX;
 // 1 and 2 of all rows. Given markers count only if they are wanted.
 #[tactic(auto, unfolding(crate::specs::Limits::any_too_large, crate::specs::Limits::any_outside))]
 fn row_faults(inputs: &Inputs<'_>) -> RowFaults
-    ensures too_large_value {
-        let x = inputs_of inputs.now in result.too_large ≡ any_too_large x.options x.tracks x.markers x.comments x.callers }
-    ensures outside_value {
-        let x = inputs_of inputs.now in
+    ensures too_large_value { let x = inputs_of inputs.now in result.too_large ≡ any_too_large x.options x.tracks x.markers x.comments x.callers }
+    ensures outside_value { let x = inputs_of inputs.now in
         result.outside ≡ any_outside x.options (length x.pool) (length x.raw) x.tracks x.markers x.comments x.callers }
 {
     let o = inputs.options;
@@ -39,8 +37,20 @@ fn row_faults(inputs: &Inputs<'_>) -> RowFaults
     let emid = id_row(o.edited_master_id);
     let a = extents(Row::Text, &tags, ANY, LONGEST_TEXT, pool);
     let b = extents(Row::Text, &emid, ANY, LONGEST_TEXT, raw);
-    let c = extents(Row::Track, inputs.lent.tracks, MOST_TRACKS, LONGEST_TEXT, pool);
-    let d = extents(Row::Marker, inputs.lent.markers, MOST_MARKERS, LONGEST_TEXT, raw);
+    let c = extents(
+        Row::Track,
+        inputs.lent.tracks,
+        MOST_TRACKS,
+        LONGEST_TEXT,
+        pool,
+    );
+    let d = extents(
+        Row::Marker,
+        inputs.lent.markers,
+        MOST_MARKERS,
+        LONGEST_TEXT,
+        raw,
+    );
     let e = extents(Row::Comment, inputs.lent.comments, ANY, LONGEST_TEXT, pool);
     let f = extents(
         Row::Caller,
@@ -74,8 +84,7 @@ fn any_no_scalar(inputs: &Inputs<'_>) -> bool
 // 1 to 3
 #[tactic(auto, using(refusal::proofs::VerdictLaws::in_turn), unfolding(crate::specs::Limits::limit_faults))]
 pub fn limit_faults(inputs: &Inputs<'_>) -> Verdict
-    ensures {
-        let x = inputs_of inputs.now in result ≡ limit_faults x.options x.pool x.raw x.tracks x.markers x.comments x.callers }
+    ensures { let x = inputs_of inputs.now in result ≡ limit_faults x.options x.pool x.raw x.tracks x.markers x.comments x.callers }
 {
     let rows = row_faults(inputs);
     refuse_if(rows.too_large, Refusal::TooLarge)?;

@@ -31,7 +31,10 @@ fn numbers_fault(area: Area, numbers: Option<ChannelNumbers>) -> Verdict
 {
     match numbers {
         Some(given) if is_unspecified(area.layout) => {
-            refuse_if(given.count != area.channels as u32, Refusal::ChannelNumbersCount)?;
+            refuse_if(
+                given.count != area.channels as u32,
+                Refusal::ChannelNumbersCount,
+            )?;
             let n = given.count.min(6) as usize;
             let list = given.numbers.map(|number| number as u32);
             number_faults(&list[..n])

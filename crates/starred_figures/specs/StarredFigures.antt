@@ -43,34 +43,7 @@ build sound positions lengths options = record {
 
 -- the defaults, but for D1, the start, what the index's offsets lead to, and the CRC
 abbrev pub with : Bool → Start → DstIndexOffset → Bool → Options
-with d1 start offset crc = record {
-  channel_numbers = defaults.channel_numbers;
-  unspecified_loudspeaker_configuration = defaults.unspecified_loudspeaker_configuration;
-  loudspeaker_configuration = defaults.loudspeaker_configuration;
-  absolute_start = start;
-  dst_crc = crc;
-  dst_index = defaults.dst_index;
-  dst_index_offset = offset;
-  source_track = defaults.source_track;
-  edited_master = defaults.edited_master;
-  edited_master_info = defaults.edited_master_info;
-  edited_master_id_written = defaults.edited_master_id_written;
-  edited_master_id = defaults.edited_master_id;
-  custom_markers = defaults.custom_markers;
-  source_track_markers = defaults.source_track_markers;
-  clipped_program = defaults.clipped_program;
-  marker_titles = defaults.marker_titles;
-  text_pad_counted = defaults.text_pad_counted;
-  artist_title = defaults.artist_title;
-  artist_title_source = defaults.artist_title_source;
-  album = defaults.album;
-  track = defaults.track;
-  text_replacement = defaults.text_replacement;
-  empty_text = defaults.empty_text;
-  empty_info = defaults.empty_info;
-  d1 = d1;
-  d2 = defaults.d2;
-}
+with d1 start offset crc = record defaults { d1 = d1; absolute_start = start; dst_index_offset = offset; dst_crc = crc }
 
 -- one position of DSD: the defaults; D1; a start
 abbrev pub dsd : Inputs

@@ -2,14 +2,14 @@
 -- counted; and six reads of it, of which one is refused. Assumes nothing.
 use Rattle.std.specs.Prelude.{true, false, List, [], ◌∷◌, ◌++◌, ℕ, ◌+◌, ◌*◌, replicate, Some, Ok, Err}
 use Rattle.chunk.specs.Number.{num}
-use Rattle.chunk_names.specs.Name.{ascii, property_order, info_order, local_order}
+use Rattle.chunk_names.specs.Name.{ascii}
 use Rattle.tree.specs.Reader.{Report}
 use Rattle.prop_fields.specs.declared.compression.Sound.TheVariants.{Dsd}
-use Rattle.prop_fields.specs.declared.layout.Layout.TheVariants.{Stereo}
 use Rattle.build_options.specs.declared.options.Options.{Options}
 use Rattle.build_options.specs.Options.{defaults}
 use Rattle.build_options.specs.Inputs.{Inputs}
 use Rattle.file_tree.specs.File.{header_of, trailer_of}
+use Rattle.starred_figures.specs.StarredFigures.{build}
 use Rattle.refusal.specs.declared.verdict.Refusal.TheVariants.{NotLent}
 use Rattle.file_read.specs.Read.{Request}
 use Rattle.old_readers.specs.Premises.{AcceptedBuild, Call}
@@ -17,52 +17,23 @@ use Rattle.worked_reads.specs.Instance.{WorkedRead, Instance, Worked, report_of,
 
 -- the defaults, but for: DIIN with the given markers, artist and title, and pads counted inside the sizes
 abbrev pub tagged_options : Options
-tagged_options = record {
-  channel_numbers = defaults.channel_numbers;
-  unspecified_loudspeaker_configuration = defaults.unspecified_loudspeaker_configuration;
-  loudspeaker_configuration = defaults.loudspeaker_configuration;
-  absolute_start = defaults.absolute_start;
-  dst_crc = defaults.dst_crc;
-  dst_index = defaults.dst_index;
-  dst_index_offset = defaults.dst_index_offset;
-  source_track = defaults.source_track;
-  edited_master = defaults.edited_master;
+tagged_options = record defaults {
   edited_master_info = true;
-  edited_master_id_written = defaults.edited_master_id_written;
-  edited_master_id = defaults.edited_master_id;
   custom_markers = true;
-  source_track_markers = defaults.source_track_markers;
-  clipped_program = defaults.clipped_program;
-  marker_titles = defaults.marker_titles;
   text_pad_counted = true;
   artist_title = Some true;
-  artist_title_source = defaults.artist_title_source;
   album = record { artist = Some (record { start = 0; length = 3 }); title = Some (record { start = 3; length = 4 }) };
-  track = defaults.track;
-  text_replacement = defaults.text_replacement;
-  empty_text = defaults.empty_text;
-  empty_info = defaults.empty_info;
-  d1 = defaults.d1;
-  d2 = defaults.d2;
 }
 
 -- one position. Artist "Zoë", whose last letter is replaced, title "Duet", comments "Night" and "Live"; markers: a track's start at 0 with flags 2 and the text "One", and a stop at the
 -- end without text, which has no flags. The caller's chunk has the name of DIIN's title and begins with a count of 0, but under FRM8 it is no text.
 abbrev pub tagged_dsd : Inputs
-tagged_dsd = record {
-  area = record { sound = Dsd; playtime = 1; channels = 2; layout = Stereo; first = 0; end = 1 };
-  options = tagged_options;
-  property_order = property_order;
-  info_order = info_order;
-  local_order = local_order;
-  local_count = 5;
+tagged_dsd = record (build Dsd 1 [] tagged_options) {
   pool = ascii "Zo" ++ 235 ∷ ascii "DuetNightLive";
   raw = ascii "One" ++ (0 ∷ 0 ∷ 0 ∷ 0 ∷ 9 ∷ []);
-  tracks = [];
   markers = 0 ∷ 2 ∷ 0 ∷ 3 ∷ 1 ∷ (1 * 65_536 + 2) ∷ 0 ∷ 0 ∷ [];
   comments = 2024 ∷ 5 ∷ 6 ∷ 7 ∷ 8 ∷ 0 ∷ 1 ∷ 7 ∷ 5 ∷ 2025 ∷ 12 ∷ 31 ∷ 23 ∷ 59 ∷ 3 ∷ 4 ∷ 12 ∷ 4 ∷ [];
   callers = num (ascii "DITI") ∷ 3 ∷ 5 ∷ [];
-  lengths = [];
 }
 
 -- its frame: no byte is zero, and those at its ends and in its middle stand nowhere else

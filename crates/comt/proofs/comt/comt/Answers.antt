@@ -4,9 +4,7 @@ use mathlib.Core.Path.{◌≡◌}
 use lib.ListN.{length}
 use native.Mathlib.Omega.{arith}
 use borrow.Author.Rules.{rules}
-use Rattle.chunk_names.specs.Name.{ascii}
 use Rattle.chunk.proofs.AppendLaws.{none}
-use Rattle.chunk.proofs.SizeLastLaws.{chunk-size-last}
 use Rattle.comt.specs.Comment.{written_comments, comt_data, has_comt, comt}
 use Rattle.comt.proofs.CommentLaws.{words_fit, comt-count, comt_data-short}
 use Rattle.comt.proofs.comt.comt.Goals as goal
@@ -17,9 +15,9 @@ returns-then-not-count c = let cs = written_comments c.args.pool.now c.args.rows
     let left_out : has_comt cs ≡ false = rw (← c.comments_count-count.ensures) c.if-not-count.true in
     rw left_out (none (search rules) (search rules))
 
-pub overflow_cast-count : goal.overflow_cast-count
+pub overflow_cast-told : goal.overflow_cast-told
 unfolding has_comt
-overflow_cast-count c = let cs = written_comments c.args.pool.now c.args.rows.now c.args.options in
+overflow_cast-told c = let cs = written_comments c.args.pool.now c.args.rows.now c.args.options in
     let has : has_comt cs ≡ true = rw (← c.comments_count-count.ensures) c.if-not-count.false in
     omega (arith, c.comments_count-count.ensures, comt-count cs has)
 
@@ -29,6 +27,4 @@ returns c = let cs = written_comments c.args.pool.now c.args.rows.now c.args.opt
     let has : has_comt cs ≡ true = rw (← c.comments_count-count.ensures) c.if-not-count.false in
     let fits = words_fit c.args.pool.now c.args.options c.args.rows.now (λ k. omega (arith, c.type_inv.rows k)) in
     rw has
-    (chunk-size-last (ascii "COMT") (omega (arith, comt_data-short _ cs fits has (length cs)))
-    c.name-size_at.ensures c.data_start-from.ensures c.new.ensures
-    (rw c.comments_count-count.ensures at c.comt_data-end.ensures) c.close.ensures)
+    (c.chunk_of.ensures _ (omega (arith, comt_data-short _ cs fits has (length cs))) (rw (← c.comments_count-count.ensures) (search rules)))
