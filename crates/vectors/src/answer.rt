@@ -1,6 +1,7 @@
 // The recorded answer of a build.
 use crate::number::Numbers;
-use build_answer::answer::Answer;
+use build_answer::answer::{Answer, build_values};
+use refusal::verdict::number_of;
 
 #[derive(Clone, Copy)]
 pub enum Wanted {
@@ -61,5 +62,5 @@ pub(crate) fn read(numbers: &mut Numbers) -> Recorded {
 
 // Whether it has this number, and these values.
 pub(crate) fn is(given: Answer, number: u64, values: [u64; 3]) -> bool {
-    u64::from(given.number()) == number && given.values() == values
+    u64::from(number_of(given)) == number && build_values(given) == values
 }
