@@ -24,19 +24,35 @@ def default_words():
     return [int(n, 0) for part in parts for n in re.search(rf"^{part} = (.*) ∷ \[\]$", text, re.M).group(1).split(" ∷ ")]
 
 
+def fields(body):
+    """The fields of the first record in a definition's body, each with its text; of a record inside a field only the text."""
+    depth, found = 0, []
+    for letter in body.partition("{")[2]:
+        depth += {"{": 1, "(": 1, "}": -1, ")": -1}.get(letter, 0)
+        if depth < 0:
+            break
+        if letter == ";" and depth == 0 or not found:
+            found.append("")
+        found[-1] += letter
+    return [(name.strip(" ;«»"), made) for name, _, made in (field.partition(" = ") for field in found) if made]
+
+
 def places():
-    """Of each field of Inputs.antt: the words that it is made of."""
-    found = {}
-    for line in spec("words", "Inputs").splitlines():
-        field, _, made = line.strip().partition(" = ")
-        numbers = {int(n) for n in re.findall(r"\bw (\d+)", made)}
+    """Of each field of the records in Inputs.antt: the words that it is made of, by itself or by a definition of that file."""
+    parts = re.split(r"^(?:abbrev|unfoldable) pub (\w+) : .*\n", spec("words", "Inputs"), flags=re.M)[1:]
+    bodies = {name: " ".join(text.partition(" =")[2].split()) for name, text in zip(parts[::2], parts[1::2])}
+
+    def numbers(made):
+        found = {int(n) for n in re.findall(r"\bw (\d+)", made)}
         for start, count in re.findall(r"low_bytes w (\d+) (\d+)", made):
-            numbers |= set(range(int(start), int(start) + int(count)))
+            found |= set(range(int(start), int(start) + int(count)))
         for start in re.findall(r"text_at w (\d+)", made):
-            numbers |= set(range(int(start), int(start) + 3))
-        if numbers:
-            found[field.strip("«»")] = numbers
-    return found
+            found |= set(range(int(start), int(start) + 3))
+        for other in re.findall(r"\b(\w+) w(?! \d)", made):
+            found |= numbers(bodies[other])
+        return found
+
+    return {field: numbers(made) for body in bodies.values() for field, made in fields(body)}
 
 
 def count_of_words():

@@ -4,8 +4,9 @@
     tools/papers/promises.py [ROOT]
 
 A public function has no `requires`; it has an `ensures`; each `ensures` is an equation, or a record of equations, without a condition; the
-answer and every buffer that is lent to be written are in them, and of an answer that is told field by field, every field. Functions of
-programs are not `pub`.
+answer and every buffer that is lent to be written are in them, and of an answer that is told field by field, every field. A bound of what
+was given may stand beside such equations. What a function that is handed a closure F asks is only that F can be called
+(`F.IsAlwaysCallable`), and its equations may rest on what F does (`F.post`), for values below a bound. Functions of programs are not `pub`.
 Exit status: 0 nothing is listed, 1 something is."""
 import re, sys
 from pathlib import Path
@@ -37,8 +38,8 @@ def heads(text):
 
 
 def definitions():
-    """Of each record: its fields' types. Of each other definition of a type: the name that it stands for."""
-    records, names = {}, {}
+    """Of each record: its fields' types. Of each other definition of a type: the name that it stands for. Of one that makes a record of a value's fields: these."""
+    records, names, wholes = {}, {}, {}
     for path in CRATES.glob("*/specs/*.antt"):
         text = path.read_text(encoding="utf-8")
         for m in re.finditer(r"^pub record (\S+).*?where\n((?:  .*\n?|--.*\n)*)", text, re.M):
@@ -46,13 +47,57 @@ def definitions():
             records.setdefault(m.group(1), []).append([" ".join(f.split()) for f in fields])
         for m in re.finditer(r"^(?:abbrev|unfoldable) pub (\S+) : .*→ Type 0\n\1 [^=]*= (.*)", text, re.M):
             names[m.group(1)] = m.group(2)
-    return records, names
+        for m in re.finditer(r"^(\w+) x = record \{\n((?:  \w+ = [^{}]*;\n)+)\}$", text, re.M):
+            wholes.setdefault(m.group(1), []).append(set(re.findall(r"^  \w+ = x\.([\w.]+?)(?:\.now)?;$", m.group(2), re.M)))
+    return records, names, wholes
 
 
-RECORDS, NAMES = definitions()
-# what an equation is to tell: the answer, a field of it, or what a lent buffer holds in the end
-TOLD = r"(?:result|result\.\S+|\S+\.new)"
+RECORDS, NAMES, WHOLES = definitions()
+# what an equation is to tell: the answer, a field of it, what a lent buffer holds in the end, or the answer's fields as a record
+TOLD = r"(?:result|result\.\S+|\S+\.new|\w+ result)"
+BOUND = re.compile(r"[^→≡<]+ < 2 \^ \d+")
 SOURCES = "\n".join(p.read_text(encoding="utf-8") for p in sorted(CRATES.glob("*/src/**/*.rt")))
+
+
+def places_of(answer):
+    """The places of a struct's answer: its fields, and of a field that is such a struct, of lent slices and all, that struct's."""
+    name = re.match(r"\w+", answer)
+    struct = name and re.search(rf"pub struct {name.group()}(?:<'\w+>)? \{{(.*?)\n\}}", SOURCES, re.S)
+    for field, kind in re.findall(r"pub (\w+): ([^,\n]*)", struct.group(1)) if struct else []:
+        inside = list(places_of(kind)) if "<'" in kind else []
+        yield from (f"{field}.{place}" for place in inside) if inside else [field]
+
+
+def is_whole(name, answer):
+    """A definition that has each place of such an answer in a record, as it is."""
+    places = set(places_of(answer))
+    return bool(places) and name in WHOLES and all(places == told for told in WHOLES[name])
+
+
+def without_let(fact):
+    """`let x = e in f` with e for x."""
+    while found := re.match(r"let (\w+) = (.*?) in (.*)", fact):
+        name, value, inside = found.groups()
+        fact = re.sub(rf"(?<![\w.]){name}(?!\w)", f"({value})", inside)
+    return fact
+
+
+def closures(signature):
+    """The parameters that are closures, by their types' names: F of `write: F`, where F: FnOnce(..)."""
+    kinds = re.findall(r"(\w+): Fn(?:Once|Mut)?\(", signature)
+    return {kind: re.findall(rf"(\w+): (?:&mut |&)?{kind}\b", signature) for kind in kinds}
+
+
+def without_closures(fact, called):
+    """An equation without the conditions that closures bring: values, bounds of these, and what a closure does."""
+    *conditions, last = fact.split(" → ")
+    does = "|".join(rf"\({kind}\.post {name}\)" for kind, names in called.items() for name in names)
+    fits = rf"\(\w+ : [\w ]+\)|{BOUND.pattern}|[\w.]+ (?:{does}) [\w ]+"
+    return last if does and conditions and all(re.fullmatch(fits, c) for c in conditions) else fact
+
+
+def is_callable(clause, called):
+    return clause in [f"{kind}.IsAlwaysCallable {name}" for kind, names in called.items() for name in names]
 
 
 def outside_brackets(fact):
@@ -80,19 +125,25 @@ def is_field(fact):
 
 
 def shortcomings(signature, clauses):
-    if clauses["requires"]:
+    called = closures(signature)
+    if any(not is_callable(clause, called) for clause in clauses["requires"]):
         yield "has a `requires`"
     if not clauses["ensures"]:
         yield "has no `ensures`"
         return
-    told = " ".join(clauses["ensures"])
+    answer, equations = re.search(r"-> (\S.*)", signature), []
     for clause in clauses["ensures"]:
-        if not is_equation(clause, TOLD):
-            yield f"promises what is no equation: {clause[:90]}"
+        fact = without_closures(without_let(clause), called)
+        whole = re.match(r"(\w+) result ≡ ", fact)
+        if not is_equation(fact, TOLD) or (whole and not (answer and is_whole(whole.group(1), answer.group(1)))):
+            if not BOUND.fullmatch(fact):
+                yield f"promises what is no equation: {clause[:90]}"
+        else:
+            equations.append(fact)
+    told = " ".join(equations)
     for lent in re.findall(r"(\w+): &(?:'\w+ )?mut", signature):
         if not re.search(rf"(?<![\w.]){lent}\.new\b", told):
             yield f"does not say what `{lent}` holds in the end"
-    answer = re.search(r"-> (\S.*)", signature)
     by_field = set(re.findall(r"\bresult\.(\w+)", told))
     if answer and not re.search(r"\bresult\b", told):
         yield "does not say what it answers"

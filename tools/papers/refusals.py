@@ -1,5 +1,6 @@
-"""The refusals as crates/*/specs define them. A refusal's definition is the one that hands its number to `refuse_if`, and 01's words are
-quoted in the comments of specs/ as `7: "Channels aren't 1 to 6"`; whether they are 01's own is for a reader to see, who has 01."""
+"""The refusals as crates/*/specs define them: each has a name, and its number by `number` of crates/refusal/specs/Verdict.antt. A refusal's
+definition is the one that hands its name to `refuse_if`, and 01's words are quoted in the comments of specs/ as `7: "Channels aren't 1 to 6"`;
+whether they are 01's own is for a reader to see, who has 01."""
 import re
 from pathlib import Path
 
@@ -35,17 +36,34 @@ def definitions():
             yield (crate, path.stem), name, left.split()[1:], right
 
 
+def numbers():
+    """Of each refusal's name its number, as `number` has it; the comments of the enum are held to it."""
+    spec = (ROOT / "crates/refusal/specs/Verdict.antt").read_text(encoding="utf-8")
+    found = {name: int(number) for name, number in re.findall(r"^number \(?(\w+)(?: \w+\))? = (\d+)$", spec, re.M)}
+    code = (ROOT / "crates/refusal/src/verdict.rt").read_text(encoding="utf-8")
+    listed = re.search(r"^pub enum Refusal \{\n(.*?)^\}", code, re.M | re.S).group(1)
+    told = {name: int(number) for name, number in re.findall(r"^    (\w+)(?: \{ \w+: u64 \})?, // (\d+): ", listed, re.M)}
+    if not found or told != found or len(told) != len(listed.splitlines()) or len(set(found.values())) != len(found):
+        raise SystemExit("crates/refusal: the refusals of src/verdict.rt, their numbers there and those of specs/Verdict.antt are not the same")
+    return found
+
+
+def name_in(given):
+    """What an argument names: of `refused.Range`, `(ShortTrack (k + 1))`, `(λ n. HeaderRoom n)` and `(refusal n)` what is applied there."""
+    return re.fullmatch(r"\(?(?:λ \w+\. )?(?:refused\.)?(\w+)(?: .*\))?\)?", given).group(1)
+
+
 def defined():
-    """Of each number: the definitions that hand it to `refuse_if`, themselves or by one that takes the number (`short`, `beyond`)."""
-    by_file, found = {}, {}
+    """Of each number: the definitions that hand its refusal to `refuse_if`, themselves or by one that takes the refusal (`short`, `beyond`)."""
+    by_file, found, number_of = {}, {}, numbers()
     for where, name, parameters, text in definitions():
-        place_of_number = by_file.setdefault(where, {"refuse_if": 1})
-        for call in re.finditer(r"(?<!\S)\(?(%s) " % "|".join(place_of_number), text):
-            given = arguments(text[call.end() :])[place_of_number[call.group(1)]]
+        place_of_refusal = by_file.setdefault(where, {"refuse_if": 1})
+        for call in re.finditer(r"(?<!\S)\(?(%s) " % "|".join(place_of_refusal), text):
+            given = name_in(arguments(text[call.end() :])[place_of_refusal[call.group(1)]])
             if given in parameters:
-                place_of_number[name] = parameters.index(given)
-            elif (where, name) not in found.setdefault(int(given), []):
-                found[int(given)].append((where, name))
+                place_of_refusal[name] = parameters.index(given)
+            elif (where, name) not in found.setdefault(number_of[given], []):
+                found[number_of[given]].append((where, name))
     return found
 
 

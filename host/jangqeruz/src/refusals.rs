@@ -448,17 +448,17 @@ impl Refusal {
             Refusal::LocalOrderRepeats => Told {
                 words: "Local order repeats.",
                 remedy: "Name each of PROP, COMT, DIIN, SOUND and DSTI once at most in local_order.",
-                definition: "crates/local_rules/specs/Local.antt: local_faults; crates/words/specs/Border.antt: name_faults",
+                definition: "crates/local_rules/specs/Local.antt: order_faults; crates/words/specs/Border.antt: name_faults",
             },
             Refusal::LocalOrderLacks => Told {
                 words: "It lacks a chunk to be written.",
                 remedy: "Name in local_order every chunk that is written: PROP and SOUND, for DST with an index DSTI, with comments COMT, with edited_master_info DIIN.",
-                definition: "crates/local_rules/specs/Local.antt: local_faults",
+                definition: "crates/local_rules/specs/Local.antt: order_faults",
             },
             Refusal::PropertyAfterSound => Told {
                 words: "PROP after sound.",
                 remedy: "Name PROP before SOUND in local_order.",
-                definition: "crates/local_rules/specs/Local.antt: local_faults",
+                definition: "crates/local_rules/specs/Local.antt: order_faults",
             },
             Refusal::HeaderShort(_) => Told {
                 words: "Header buffer short; detail, the length needed.",
