@@ -1,4 +1,4 @@
-"""The refusals as crates/*/specs define them: each has a name, and its number by `number` of crates/refusal/specs/Verdict.antt. A refusal's
+"""The refusals as crates/*/specs define them: each has a name, and its number by `refusal_number` of crates/refusal/specs/Verdict.antt. A refusal's
 definition is the one that hands its name to `refuse_if`, and 01's words are quoted in the comments of specs/ as `7: "Channels aren't 1 to 6"`;
 whether they are 01's own is for a reader to see, who has 01."""
 import re
@@ -37,9 +37,9 @@ def definitions():
 
 
 def numbers():
-    """Of each refusal's name its number, as `number` has it; the comments of the enum are held to it."""
+    """Of each refusal's name its number, as `refusal_number` has it; the comments of the enum are held to it."""
     spec = (ROOT / "crates/refusal/specs/Verdict.antt").read_text(encoding="utf-8")
-    found = {name: int(number) for name, number in re.findall(r"^number \(?(\w+)(?: \w+\))? = (\d+)$", spec, re.M)}
+    found = {name: int(number) for name, number in re.findall(r"^refusal_number \(?(\w+)(?: \w+\))? = (\d+)$", spec, re.M)}
     code = (ROOT / "crates/refusal/src/verdict.rt").read_text(encoding="utf-8")
     listed = re.search(r"^pub enum Refusal \{\n(.*?)^\}", code, re.M | re.S).group(1)
     told = {name: int(number) for name, number in re.findall(r"^    (\w+)(?: \{ \w+: u64 \})?, // (\d+): ", listed, re.M)}

@@ -2,7 +2,7 @@
 -- order, meet 34 or 46; an undated start or end meets 46"). Assumes nothing.
 use Rattle.std.specs.Prelude.{Bool, cond, not, ◌&&◌, [], ◌∷◌, ℕ, Result, Ok, Err}
 use Rattle.refusal.specs.declared.verdict.Refusal.{Refusal}
-use Rattle.refusal.specs.Verdict.{Verdict, first_of, number_of, detail}
+use Rattle.refusal.specs.Verdict.{Verdict, first_of, number_of, refusal_detail}
 use Rattle.calendar.specs.declared.date.Stamp.{Stamp}
 use Rattle.calendar.specs.Date.{is_undated, date_fault, note_fault}
 use Rattle.calendar.specs.Order.{earlier}
@@ -33,4 +33,4 @@ falls_number falls = number_of falls
 -- 1 where the note falls in, else 0; or the refusal's detail
 abbrev pub falls_value : Falls → ℕ
 falls_value (Ok inside) = cond inside 1 0
-falls_value (Err r) = detail r
+falls_value (Err r) = refusal_detail r

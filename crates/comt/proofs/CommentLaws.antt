@@ -8,7 +8,7 @@ use native.Mathlib.Numerals.{add-one}
 use native.Mathlib.Decide.{dec_le}
 use native.Mathlib.Omega.{arith}
 use borrow.Author.Tests.{lt-leb}
-use lib.ListN.{length, take, drop, get_or, length-take, length-drop, length-append}
+use lib.ListN.{length, take, drop, get_or, length-take, length-append}
 use lib.Seq.{take-append_seam, drop-append_seam, take_all, drop-drop, get_or-take, get_or-drop}
 use Rattle.chunk.specs.Number.{be}
 use Rattle.chunk_names.specs.Name.{ascii}
@@ -41,10 +41,6 @@ unfolding flat_map comment_bytes
 comments-room n [] fits = omega arith
 comments-room n (c ∷ cs) fits =
     simp (length-append, length-counts, length-pad) (omega (arith, fits.0, fits.1, comments-room n cs fits.2, mul-suc (14 + n) (length cs)))
-
--- row i is whole
-pub row-whole : (words : List ℕ) (i : ℕ) → i < length words / 9 → length (take (i * 9 + 9 - i * 9) (drop (i * 9) words)) ≡ 9
-row-whole words i h = simp (length-take, length-drop) (omega arith)
 
 module _ (pool : List ℕ) (o : TextOptions) where
   -- what a row gives

@@ -30,22 +30,23 @@ pub struct Comment {
     pub text: Extent,
 }
 
-// The comment of a row.
+// The comment of a row; a word that the row hasn't is 0.
+#[tactic(auto, unfolding(crate::specs::Comment::comment_of))]
 pub fn comment_of(row: &[u32]) -> Comment
-    requires { length row.now ≡ 9 }
     ensures { result ≡ comment_of row.now }
 {
+    let word = |k: usize| row.get(k).copied().unwrap_or(0);
     Comment {
-        year: row[0],
-        month: row[1],
-        day: row[2],
-        hour: row[3],
-        minutes: row[4],
-        kind: row[5],
-        reference: row[6],
+        year: word(0),
+        month: word(1),
+        day: word(2),
+        hour: word(3),
+        minutes: word(4),
+        kind: word(5),
+        reference: word(6),
         text: Extent {
-            start: row[7],
-            length: row[8],
+            start: word(7),
+            length: word(8),
         },
     }
 }

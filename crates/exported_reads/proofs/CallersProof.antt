@@ -11,7 +11,7 @@ use Rattle.chunk.specs.Append.{overlay}
 use Rattle.tree.specs.Gather.{Read, refused, accepted}
 use Rattle.dst.specs.Frame.{Frame}
 use Rattle.std.specs.Prelude.{Ok, Err}
-use Rattle.refusal.specs.Verdict.{Verdict, number, or_else}
+use Rattle.refusal.specs.Verdict.{Verdict, refusal_number, or_else}
 use Rattle.build_options.specs.Inputs.{Inputs}
 use Rattle.words.specs.Border.{words_fault}
 use Rattle.build_answer.specs.Answer.{Answer}
@@ -58,7 +58,7 @@ every-exported-build e zero = by_answer e e.promise.answer e.promise.promise (sy
 read-by : (q : Request) (out last : List ℕ) (r : ReadAnswer) → Reads q out last r → (n : ℕ) → n ≡ read_number r → (value : List ℕ) → value ≡ read_value r ∷ []
     → read_by q.offset out last r ≡ cond (eqb n 0) (accepted q.offset (length out) (take (get_or value 0 0) last)) refused
 read-by q out last (Ok count) promise n e value f = rw (e, f)
-read-by q out last (Err r) promise n e value f = rw (e, ne_eqb (number r) 0 (λ z. omega (arith, z, (refused-read q out last r promise).least)))
+read-by q out last (Err r) promise n e value f = rw (e, ne_eqb (refusal_number r) 0 (λ z. omega (arith, z, (refused-read q out last r promise).least)))
 
 read_is : (c : ExportedRead) → read_of (call_of c) ≡ exported_read c
 read_is c =

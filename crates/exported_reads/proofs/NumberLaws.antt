@@ -5,7 +5,7 @@ use Prim.Native.Nat.{ℕ, ◌≤◌}
 use native.Mathlib.Omega.{arith}
 use lib.ListN.{length}
 use Rattle.std.specs.Prelude.{Ok, Err}
-use Rattle.refusal.specs.Verdict.{Verdict, number, or_else}
+use Rattle.refusal.specs.Verdict.{Verdict, refusal_number, or_else}
 use Rattle.refusal.specs.declared.verdict.Refusal.{Refusal}
 use Rattle.build_options.specs.Inputs.{Inputs}
 use Rattle.words.specs.Border.{field_faults, name_faults, words_fault}
@@ -25,8 +25,8 @@ exported_numbered w x h t = within-or (words_fault w) _ (words-numbered w) (numb
 
 -- a refused build: the refusal is the verdict's, and the buffers are as they were
 pub record Stays (v : Verdict) (h h' t t' : List ℕ) (r : Refusal) : Type 0 where
-  pub least : 1 ≤ number r
-  pub most : number r ≤ 41
+  pub least : 1 ≤ refusal_number r
+  pub most : refusal_number r ≤ 41
   pub refused : v ≡ Err r
   pub header : h' ≡ h
   pub trailer : t' ≡ t
@@ -40,8 +40,8 @@ refused-build x h h' t t' (Err f) within r o =
 
 -- and a refused read's
 pub record Unread (v : Verdict) (out last : List ℕ) (r : Refusal) : Type 0 where
-  pub least : 42 ≤ number r
-  pub most : number r ≤ 43
+  pub least : 42 ≤ refusal_number r
+  pub most : refusal_number r ≤ 43
   pub refused : v ≡ Err r
   pub buffer : last ≡ out
 

@@ -2,7 +2,7 @@
 -- values, and no lent buffer for the file's bytes was altered. Assumes nothing.
 use Rattle.std.specs.Prelude.{◌≡◌, Err, List, [], ◌∷◌, ℕ, ◌≤◌, length}
 use Rattle.chunk.specs.Append.{overlay}
-use Rattle.refusal.specs.Verdict.{number, detail, or_else}
+use Rattle.refusal.specs.Verdict.{refusal_number, refusal_detail, or_else}
 use Rattle.refusal.specs.declared.verdict.Refusal.{Refusal}
 use Rattle.words.specs.Border.{words_fault}
 use Rattle.assemble.specs.Build.{build_verdict}
@@ -18,8 +18,8 @@ pub record RefusedBuild (e : ExportedBuild) : Type 0 where
   pub most : e.number ≤ 41
   pub refusal : Refusal
   pub refused : or_else (words_fault e.words) (build_verdict (inputs_by e) e.header_before e.trailer_before) ≡ Err refusal
-  pub numbered : e.number ≡ number refusal
-  pub told : e.values ≡ overlay e.values_before 0 (detail refusal ∷ 0 ∷ 0 ∷ [])
+  pub numbered : e.number ≡ refusal_number refusal
+  pub told : e.values ≡ overlay e.values_before 0 (refusal_detail refusal ∷ 0 ∷ 0 ∷ [])
   pub header : e.header_buffer ≡ e.header_before
   pub trailer : e.trailer_buffer ≡ e.trailer_before
 
@@ -29,8 +29,8 @@ pub record RefusedRead (c : ExportedRead) : Type 0 where
   pub most : c.number ≤ 43
   pub refusal : Refusal
   pub refused : read_verdict c.request (length c.out) ≡ Err refusal
-  pub numbered : c.number ≡ number refusal
-  pub told : c.value ≡ detail refusal ∷ []
+  pub numbered : c.number ≡ refusal_number refusal
+  pub told : c.value ≡ refusal_detail refusal ∷ []
   pub buffer : c.last ≡ c.out
 
 -- THE STATEMENT

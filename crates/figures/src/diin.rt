@@ -2,12 +2,11 @@
 use crate::print;
 use chunk::Cursor;
 use chunk_names::InfoChunk;
-use diin_texts::diin_text::Text;
-use master_info::diin::Info;
+use master_info::diin::{Given, Info};
 use master_info::pick::{ArtistTitle, ArtistTitleSource};
-use prop_fields::start::Start;
 use std::io;
 use texts::extent::Extent;
+use texts::pools::Pools;
 use texts::text::{TextOptions, TextRule};
 use tracks::order::ProgramOptions;
 
@@ -28,39 +27,35 @@ static GIVEN: [u32; 20] = [
 // "Onée" and "Zwei€"
 static TITLES: [u32; 9] = [0x4F, 0x6E, 0xE9, 0x65, 0x5A, 0x77, 0x65, 0x69, 0x20AC];
 
-fn diin(
+fn diin<'a>(
     rt: &impl Print,
     title: &str,
-    tracks: &[u32],
-    custom: &[u32],
+    tracks: &'a [u32],
+    markers: &'a [u32],
     order: [InfoChunk; 4],
     info: Info,
 ) -> io::Result<()> {
     let mut out = [0xEEu8; 320];
-    let c = Cursor::new();
-    let end = master_info::diin::diin(
-        c,
-        &mut out,
-        &TITLES,
-        b"abcdefghij",
+    let given = Given {
+        pools: Pools {
+            text: &TITLES,
+            bytes: b"abcdefghij",
+        },
         tracks,
-        custom,
-        order,
-        info,
-    );
+        markers,
+    };
+    let end = master_info::diin::diin(Cursor::new(), &mut out, &given, order, info);
     print!(rt; "DIIN, {title}")?;
     print::written(rt, &out, end.at)
 }
 
-fn given(start: u32, length: u32) -> Text {
-    Text::Given(Extent { start, length })
-}
+const NO_TEXTS: ArtistTitle = ArtistTitle {
+    artist: None,
+    title: None,
+};
 
-fn absent() -> ArtistTitle {
-    ArtistTitle {
-        artist: Text::Absent,
-        title: Text::Absent,
-    }
+fn text(start: u32, length: u32) -> Option<Extent> {
+    Some(Extent { start, length })
 }
 
 // Frames first to end of 150.
@@ -85,49 +80,46 @@ fn options(rule: TextRule) -> TextOptions {
 }
 
 // Markers alone, from tracks unless custom ones are wanted.
-fn only_markers(program: ProgramOptions, start: Start, custom_markers: bool) -> Info {
+fn only_markers(program: ProgramOptions, start: Option<u32>, custom_markers: bool) -> Info {
     Info {
         on: true,
         empty_info: false,
-        emid: Text::Absent,
+        emid: None,
         custom_markers,
         program,
         start,
         text: options(TextRule::D2),
         artist_title: false,
         artist_title_source: ArtistTitleSource::TrackThenAlbum,
-        album: absent(),
-        track: absent(),
+        album: NO_TEXTS,
+        track: NO_TEXTS,
     }
 }
 
 // EMID, the artist of the album and the title of the track, which has no artist.
 fn texts() -> Info {
-    let text = TextOptions {
-        rule: TextRule::Replace(0x3F),
-        empty_text: false,
-        text_pad_counted: false,
-    };
-    let album = ArtistTitle {
-        artist: given(0, 4),
-        title: given(0, 2),
-    };
-    let track = ArtistTitle {
-        artist: Text::Absent,
-        title: given(4, 5),
-    };
     Info {
         on: true,
         empty_info: false,
-        emid: given(3, 3),
+        emid: text(3, 3),
         custom_markers: true,
         program: program(0, 150, 2),
-        start: Start::Absent,
-        text,
+        start: None,
+        text: TextOptions {
+            rule: TextRule::Replace(b'?'),
+            empty_text: false,
+            text_pad_counted: false,
+        },
         artist_title: true,
         artist_title_source: ArtistTitleSource::TrackThenAlbum,
-        album,
-        track,
+        album: ArtistTitle {
+            artist: text(0, 4),
+            title: text(0, 2),
+        },
+        track: ArtistTitle {
+            artist: None,
+            title: text(4, 5),
+        },
     }
 }
 
@@ -136,15 +128,15 @@ fn nothing(on: bool, empty_info: bool) -> Info {
     Info {
         on,
         empty_info,
-        emid: Text::Absent,
+        emid: None,
         custom_markers: true,
         program: program(0, 150, 0),
-        start: Start::Absent,
+        start: None,
         text: options(TextRule::Remove),
         artist_title: true,
         artist_title_source: ArtistTitleSource::TrackThenAlbum,
-        album: absent(),
-        track: absent(),
+        album: NO_TEXTS,
+        track: NO_TEXTS,
     }
 }
 
@@ -159,9 +151,9 @@ fn reversed() -> [InfoChunk; 4] {
 
 fn programs(rt: &impl Print) -> io::Result<()> {
     let order = InfoChunk::table_order();
-    let whole = only_markers(program(0, 150, 0), Start::Absent, false);
-    let part = only_markers(program(10, 100, 0), Start::Given(75), false);
-    let second = only_markers(program(50, 140, 2), Start::Given(0), false);
+    let whole = only_markers(program(0, 150, 0), None, false);
+    let part = only_markers(program(10, 100, 0), Some(75), false);
+    let second = only_markers(program(50, 140, 2), Some(0), false);
     let title = "tracks 0 to 75 and 75 to 150";
     diin(rt, title, &TOUCHING, &[], order, whole)?;
     let title = "frames 10 to 100 of tracks 0 to 40 and 60 to 120, start 75";
@@ -174,7 +166,7 @@ fn programs(rt: &impl Print) -> io::Result<()> {
 
 fn others(rt: &impl Print) -> io::Result<()> {
     let order = InfoChunk::table_order();
-    let custom = only_markers(program(0, 150, 0), Start::Absent, true);
+    let custom = only_markers(program(0, 150, 0), None, true);
     let title = "custom markers, pads counted";
     diin(rt, title, &TITLED, &GIVEN, order, custom)?;
     let title = "EMID, artist and title, reversed";

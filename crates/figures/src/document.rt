@@ -1,6 +1,9 @@
 // Document 01's figures that have no star, of whole builds.
-use build_answer::answer::Answer;
+use build_answer::answer::{Answer, build_values};
+use build_options::inputs::Lent;
+use refusal::verdict::number_of;
 use std::io;
+use texts::pools::Pools;
 
 // The words of a build, as crates/words/specs/Inputs.antt has them: frames 0 to 150 of 150 of a stereo DSD area, and the
 // original's defaults.
@@ -16,26 +19,26 @@ const MARK: usize = 34;
 
 const FIRST_MARK: usize = 156;
 
-fn build(
+fn build<'a>(
     words: &[u32],
-    tracks: &[u32],
-    markers: &[u32],
-    lengths: &[u32],
+    tracks: &'a [u32],
+    markers: &'a [u32],
+    lengths: &'a [u32],
     header: &mut [u8],
     trailer: &mut [u8],
 ) -> Answer {
-    word_builds::build::build(
-        words,
-        &[],
-        b"",
+    let lent = Lent {
+        pools: Pools {
+            text: &[],
+            bytes: b"",
+        },
         tracks,
         markers,
-        &[],
-        &[],
+        comments: &[],
+        callers: &[],
         lengths,
-        header,
-        trailer,
-    )
+    };
+    word_builds::build::build(words, &lent, header, trailer)
 }
 
 // The number of the refusal, 0 for none.
@@ -49,7 +52,7 @@ fn answer(
     let mut header = [0xEEu8; 512];
     let mut trailer = [0xEEu8; 64];
     let a = build(words, &[], markers, lengths, &mut header, &mut trailer);
-    println!(rt; "{title}: {}", a.number())
+    println!(rt; "{title}: {}", number_of(a))
 }
 
 // The frame that a marker's time names.
@@ -82,7 +85,7 @@ fn tracks(rt: &impl Print) -> io::Result<()> {
     for mark in marks.iter().take(4) {
         print!(rt; " {} {}", kind(mark), frame(mark))?;
     }
-    let [header, _, _] = a.values();
+    let [header, _, _] = build_values(a);
     println!(rt; "; the header has {header} bytes")
 }
 

@@ -5,22 +5,16 @@ use chunk_names::PropertyChunk;
 use prop::property::Properties;
 use prop_fields::compression::Sound;
 use prop_fields::layout::{ChannelNumbers, Layout};
-use prop_fields::start::Start;
 use std::io;
 
 // The original's defaults: no channel numbers, no start, LSCO unless the layout is unspecified.
 fn defaults(sound: Sound, layout: Layout, channels: u8, d1: bool) -> Properties {
-    let numbers = ChannelNumbers {
-        given: false,
-        count: 0,
-        numbers: [0; 6],
-    };
     Properties {
         sound,
         layout,
         channels,
-        numbers,
-        start: Start::Absent,
+        numbers: None,
+        start: None,
         loudspeaker_configuration: true,
         unspecified_loudspeaker_configuration: false,
         d1,
@@ -29,17 +23,15 @@ fn defaults(sound: Sound, layout: Layout, channels: u8, d1: bool) -> Properties 
 
 // Channels 7, 42 and 999, a start, and LSCO of an unspecified layout alone.
 fn numbered() -> Properties {
-    let numbers = ChannelNumbers {
-        given: true,
-        count: 3,
-        numbers: [7, 42, 999, 0, 0, 0],
-    };
     Properties {
         sound: Sound::Dsd,
         layout: Layout::Unspecified,
         channels: 3,
-        numbers,
-        start: Start::Given(6_479_998),
+        numbers: Some(ChannelNumbers {
+            count: 3,
+            numbers: [7, 42, 999, 0, 0, 0],
+        }),
+        start: Some(6_479_998),
         loudspeaker_configuration: false,
         unspecified_loudspeaker_configuration: true,
         d1: false,

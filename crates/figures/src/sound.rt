@@ -5,7 +5,6 @@ use dsd_reads::dsd_data;
 use dst::unit;
 use dst_index::index::DstIndexOffset;
 use dst_reads::dst_data;
-use sound_reads::lent::Fill;
 use sound_reads::place::Positions;
 use std::io;
 use window::window::Window;
@@ -61,8 +60,8 @@ fn read(
     print!(rt; "read from {}, at {} of {}, ", w.skip, w.at, out.len())?;
     println!(rt; "{} bytes lent, CRC: {}", frames.len(), yes_or_no(crc))?;
     match dst_data::fill(out, w, crc, 1, &LENGTHS, lent, frames, contents) {
-        Fill::Filled(v) => println!(rt; "filled to {}, {} to skip", v.at, v.skip)?,
-        Fill::NotLent => println!(rt; "not lent")?,
+        Some(v) => println!(rt; "filled to {}, {} to skip", v.at, v.skip)?,
+        None => println!(rt; "not lent")?,
     }
     print!(rt; "buffer:")?;
     print::bytes(rt, out)

@@ -2,7 +2,6 @@
 use crate::print;
 use crate::text_cases::{CASES, TextCase};
 use chunk::Cursor;
-use diin_texts::diin_text::Text;
 use std::io;
 use texts::extent::Extent;
 
@@ -18,15 +17,11 @@ fn converted(rt: &impl Print, case: &TextCase, text: Extent) -> io::Result<()> {
 // A text that may be missing, by itself and as DIAR or DITI.
 fn diin(rt: &impl Print, case: &TextCase, id: [u8; 4], text: Option<Extent>) -> io::Result<()> {
     let mut out = [0xEEu8; 32];
+    if let Some(text) = text {
+        converted(rt, case, text)?;
+    }
     let c = Cursor::new();
-    let given = match text {
-        Some(text) => {
-            converted(rt, case, text)?;
-            Text::Given(text)
-        }
-        None => Text::Absent,
-    };
-    let end = diin_texts::diin_text::diin_text(c, &mut out, id, case.pool, given, case.options);
+    let end = diin_texts::diin_text::diin_text(c, &mut out, id, case.pool, text, case.options);
     rt.write_all(&id)?;
     print::written(rt, &out, end.at)
 }

@@ -1,7 +1,7 @@
 -- What a query and a read answer, by 01's numbers, and under a verdict. Assumes nothing.
 use Rattle.std.specs.Prelude.{ℕ, List, [], ◌∷◌, Result, Ok, Err}
 use Rattle.refusal.specs.declared.verdict.Refusal.{Refusal}
-use Rattle.refusal.specs.Verdict.{Verdict, number_of, detail}
+use Rattle.refusal.specs.Verdict.{Verdict, number_of, refusal_detail}
 use Rattle.sound_reads.specs.declared.place.Positions.{Positions}
 
 -- the positions that are needed, or the refusal; the bytes filled, or the refusal
@@ -18,14 +18,14 @@ query_number answer = number_of answer
 
 abbrev pub query_values : QueryAnswer → List ℕ
 query_values (Ok p) = p.first ∷ p.end ∷ []
-query_values (Err r) = detail r ∷ 0 ∷ []
+query_values (Err r) = refusal_detail r ∷ 0 ∷ []
 
 abbrev pub read_number : ReadAnswer → ℕ
 read_number answer = number_of answer
 
 abbrev pub read_value : ReadAnswer → ℕ
 read_value (Ok count) = count
-read_value (Err r) = detail r
+read_value (Err r) = refusal_detail r
 
 -- the answer under a verdict
 abbrev pub query_answer : Verdict → Positions → QueryAnswer

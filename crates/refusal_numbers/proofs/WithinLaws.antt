@@ -5,7 +5,7 @@ use Prim.Native.Nat.{ℕ, zero, suc, ◌≤◌}
 use lib.Dec.{leb}
 use borrow.Author.Tests.{leb-true}
 use Rattle.std.specs.Prelude.{Ok, Err}
-use Rattle.refusal.specs.Verdict.{Verdict, number, or_else, refuse_if, when}
+use Rattle.refusal.specs.Verdict.{Verdict, refusal_number, or_else, refuse_if, when}
 use Rattle.refusal.specs.Below.{below, first_refused}
 use Rattle.refusal.specs.declared.verdict.Refusal.{Refusal}
 use Rattle.refusal.proofs.VerdictLaws.{not-accepted}
@@ -15,14 +15,14 @@ module _ {low high : ℕ} where
   pub within_none : Within low high (Ok tt)
   within_none = record { least = λ r e. not-accepted (sym e); most = λ r e. not-accepted (sym e) }
 
-  pub within-one : (r : Refusal) → low ≤ number r → number r ≤ high → Within low high (Err r)
+  pub within-one : (r : Refusal) → low ≤ refusal_number r → refusal_number r ≤ high → Within low high (Err r)
   within-one r l m = record {
     least = λ s e. let z : r ≡ s = cc in rw (← z) l;
     most = λ s e. let z : r ≡ s = cc in rw (← z) m;
   }
 
-  pub within_if : (t : Bool) (r : Refusal) → leb low (number r) ≡ true → leb (number r) high ≡ true → Within low high (refuse_if t r)
-  within_if true r l m = within-one r (leb-true low (number r) l) (leb-true (number r) high m)
+  pub within_if : (t : Bool) (r : Refusal) → leb low (refusal_number r) ≡ true → leb (refusal_number r) high ≡ true → Within low high (refuse_if t r)
+  within_if true r l m = within-one r (leb-true low (refusal_number r) l) (leb-true (refusal_number r) high m)
   within_if false r l m = within_none
 
   pub within-or : (v w : Verdict) → Within low high v → Within low high w → Within low high (or_else v w)

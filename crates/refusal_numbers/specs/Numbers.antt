@@ -1,6 +1,6 @@
 -- THE NUMBERS OF REFUSALS: a build's are 1 to 41, a query's 42, a read's 42 and 43; none is 0, so that the number 0 is never a refusal's. Assumes nothing.
 use Rattle.std.specs.Prelude.{◌≡◌, List, ℕ, ◌≤◌, Err}
-use Rattle.refusal.specs.Verdict.{Verdict, number}
+use Rattle.refusal.specs.Verdict.{Verdict, refusal_number}
 use Rattle.refusal.specs.declared.verdict.Refusal.{Refusal}
 use Rattle.build_options.specs.Inputs.{Inputs}
 use Rattle.assemble.specs.Build.{build_verdict}
@@ -10,8 +10,8 @@ use Rattle.file_read.specs.Read.{Request, read_verdict}
 
 -- if it is a refusal, its number is one of these
 pub record Within (low high : ℕ) (v : Verdict) : Type 0 where
-  pub least : (r : Refusal) → v ≡ Err r → low ≤ number r
-  pub most : (r : Refusal) → v ≡ Err r → number r ≤ high
+  pub least : (r : Refusal) → v ≡ Err r → low ≤ refusal_number r
+  pub most : (r : Refusal) → v ≡ Err r → refusal_number r ≤ high
 
 pub record Numbered : Type 0 where
   pub build : (x : Inputs) (header trailer : List ℕ) → Within 1 41 (build_verdict x header trailer)

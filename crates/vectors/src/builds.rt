@@ -32,16 +32,11 @@ fn build_short(
 // With a buffer that is one byte short, first for the header, then for the trailer, if it is built and has one. The buffers are
 // to stay.
 fn refused_short(counts: &mut Counts, inputs: Inputs, wanted: Wanted, sides: &mut Sides) -> bool {
-    let Wanted::Built {
-        header,
-        trailer,
-        ..
-    } = wanted
-    else {
+    let Wanted::Built(built) = wanted else {
         return true;
     };
-    let header = count(header);
-    let trailer = count(trailer);
+    let header = count(built.header);
+    let trailer = count(built.trailer);
     if header == 0 || !build_short(inputs, wanted, sides, header - 1, trailer) {
         return false;
     }
@@ -55,28 +50,19 @@ fn refused_short(counts: &mut Counts, inputs: Inputs, wanted: Wanted, sides: &mu
 
 // The recorded header and trailer. Whether they have the recorded lengths.
 fn recorded(numbers: &mut Numbers, wanted: Wanted, sides: &mut Sides) -> bool {
-    let Wanted::Built {
-        header,
-        trailer,
-        ..
-    } = wanted
-    else {
+    let Wanted::Built(built) = wanted else {
         return true;
     };
     let in_header = unpack::bytes(numbers, &mut sides.header);
     let in_trailer = unpack::bytes(numbers, &mut sides.trailer);
-    in_header == Some(count(header)) && in_trailer == Some(count(trailer))
+    in_header == Some(count(built.header)) && in_trailer == Some(count(built.trailer))
 }
 
 fn tally(counts: &mut Counts, words: &[u32], recorded: Recorded, agrees: bool) {
     counts.add_if(Count::Alone, recorded.alone);
     counts.add_if(Count::BuildsAgree, agrees);
     match recorded.wanted {
-        Wanted::Built {
-            header,
-            trailer,
-            ..
-        } => {
+        Wanted::Built(built) => {
             counts.add(Count::Built, 1);
             let kind = match (is_set(words, SOUND), is_set(words, CRC)) {
                 (false, _) => Count::BuiltDsd,
@@ -85,8 +71,8 @@ fn tally(counts: &mut Counts, words: &[u32], recorded: Recorded, agrees: bool) {
             };
             counts.add(kind, 1);
             if agrees {
-                counts.add(Count::Bytes, count(header));
-                counts.add(Count::Bytes, count(trailer));
+                counts.add(Count::Bytes, count(built.header));
+                counts.add(Count::Bytes, count(built.trailer));
             }
         }
         Wanted::Refused { number, .. } => {

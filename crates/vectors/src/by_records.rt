@@ -2,10 +2,9 @@
 use crate::buffers::Sides;
 use crate::counts::{Count, Counts};
 use crate::inputs::Inputs;
-use crate::{answer, records};
+use crate::records;
 use build_answer::answer::Answer;
-use refusal::verdict::Verdict;
-use single_words::word::{is_set, word};
+use single_words::word::is_set;
 use std::alloc::{AllocError, Global};
 
 // Where the switch of custom markers stands among the words.
@@ -13,24 +12,9 @@ const CUSTOM: usize = 27;
 
 // The words have no fault.
 fn build(alloc: Global, inputs: Inputs, sides: &mut Sides) -> Result<Answer, AllocError> {
-    let markers = records::records(alloc, inputs.markers)?;
-    Ok(dsdiff::build(
-        words::inputs::area_of(inputs.words),
-        words::inputs::options_of(inputs.words),
-        words::orders::property_order(inputs.words),
-        words::orders::info_order(inputs.words),
-        words::orders::local_order(inputs.words),
-        word(inputs.words, 66),
-        inputs.pool,
-        inputs.raw,
-        inputs.tracks,
-        &markers,
-        inputs.comments,
-        inputs.callers,
-        inputs.lengths,
-        &mut sides.header,
-        &mut sides.trailer,
-    ))
+    let markers = records::records(alloc, inputs.lent.markers)?;
+    let inputs = words::inputs::inputs_of(inputs.words, &inputs.lent);
+    Ok(dsdiff::build(&inputs, &markers, &mut sides.header, &mut sides.trailer))
 }
 
 // Whether the answer is that of the build by rows, and so is what it leaves in buffers of FILL.
@@ -42,17 +26,17 @@ fn is_same(
 ) -> Result<bool, AllocError> {
     let mut own = Sides::new(alloc)?;
     let given = build(alloc, inputs, &mut own)?;
-    Ok(answer::is(given, u64::from(by_rows.number()), by_rows.values()) && own == *sides)
+    Ok(given == by_rows && own == *sides)
 }
 
 // Where it is counted: among those that records can tell, or by what they cannot.
 fn place(words: &[u32], markers: &[u32]) -> Count {
     match words::border::words_fault(words) {
-        Verdict::Refused { .. } => Count::WordsAtFault,
-        Verdict::Accepted if markers.len() % 4 != 0 => Count::RowCutShort,
-        Verdict::Accepted if !records::have_kinds(markers) => Count::NoSuchKind,
-        Verdict::Accepted if markers.len() / 4 > records::MOST => Count::TooMany,
-        Verdict::Accepted => Count::ByRecords,
+        Err(_) => Count::WordsAtFault,
+        Ok(()) if markers.len() % 4 != 0 => Count::RowCutShort,
+        Ok(()) if !records::have_kinds(markers) => Count::NoSuchKind,
+        Ok(()) if markers.len() / 4 > records::MOST => Count::TooMany,
+        Ok(()) => Count::ByRecords,
     }
 }
 
@@ -68,7 +52,7 @@ pub(crate) fn agrees(
     if !is_set(inputs.words, CUSTOM) {
         return Ok(true);
     }
-    let k = place(inputs.words, inputs.markers);
+    let k = place(inputs.words, inputs.lent.markers);
     counts.add(Count::Custom, 1);
     counts.add(k, 1);
     match k {

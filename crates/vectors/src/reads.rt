@@ -5,8 +5,10 @@ use crate::file::{Ends, File};
 use crate::number::{Numbers, count};
 use crate::recorded_window::Window;
 use crate::{frames, recorded_window, unpack};
+use file_read::read::Request;
 use prop_fields::compression::Sound;
-use read_answer::answer::ReadAnswer;
+use read_answer::answer::{ReadAnswer, query_values, read_value};
+use refusal::verdict::number_of;
 
 // Bytes of a channel's content.
 const FRAME: usize = 4_704;
@@ -24,13 +26,13 @@ fn is_asked(f: File, w: Window) -> bool {
         f.format, f.lengths, f.header, f.trailer, w.offset, w.room,
     );
     if w.refusal == Some(42) {
-        given.number() == 42 && given.values() == [0, 0]
+        number_of(given) == 42 && query_values(given) == [0, 0]
     } else {
-        given.number() == 0 && given.values() == [w.first, w.end]
+        number_of(given) == 0 && query_values(given) == [w.first, w.end]
     }
 }
 
-fn call(f: File, ends: Ends, w: Window, out: &mut [u8]) -> ReadAnswer {
+fn call<'a>(f: File<'a>, ends: Ends<'a>, w: Window, out: &mut [u8]) -> ReadAnswer {
     let first = count(w.first);
     let end = count(w.end);
     let mut dst = [0; FRAMES];
@@ -38,19 +40,20 @@ fn call(f: File, ends: Ends, w: Window, out: &mut [u8]) -> ReadAnswer {
     let mut contents = [0; CONTENTS];
     let length = f.format.channels as usize * FRAME;
     frames::contents(&mut contents, f.seed, first, end, length);
-    file_read::read::read(
-        f.format,
-        f.lengths,
-        ends.header,
-        ends.trailer,
-        w.offset,
-        f.lengths
+    let request = Request {
+        format: f.format,
+        lengths: f.lengths,
+        header: ends.header,
+        trailer: ends.trailer,
+        offset: w.offset,
+        lent: f
+            .lengths
             .get(first..first.saturating_add(w.lent))
             .unwrap_or_default(),
-        front(&dst, w.frames),
-        front(&contents, w.contents),
-        out,
-    )
+        frames: front(&dst, w.frames),
+        contents: front(&contents, w.contents),
+    };
+    file_read::read::read(&request, out)
 }
 
 // The bytes that are recorded, into a buffer. How many, if they are bytes.
@@ -65,7 +68,8 @@ fn answers(f: File, ends: Ends, w: Window, filled: usize, out: &mut [u8]) -> boo
     match out.get_mut(..count(w.room)) {
         Some(out) => {
             let given = call(f, ends, w, out);
-            u64::from(given.number()) == w.refusal.unwrap_or(0) && given.value() == filled as u64
+            u64::from(number_of(given)) == w.refusal.unwrap_or(0)
+                && read_value(given) == filled as u64
         }
         None => false,
     }

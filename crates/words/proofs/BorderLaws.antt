@@ -8,7 +8,7 @@ use lib.Dec.{eqb, ltb}
 use borrow.Author.Tests.{eqb-true, eqb-false, ltb-false, not-false}
 use lib.ListN.{length}
 use Rattle.refusal.specs.declared.verdict.Refusal.TheVariants as refused
-use Rattle.std.specs.Prelude.{Option, None, Some, cond}
+use Rattle.std.specs.Prelude.{None, Some, cond}
 use Rattle.words.specs.Inputs.{halves_of}
 use Rattle.refusal.specs.Orders.{property_rank, info_rank, local_rank}
 use Rattle.refusal.proofs.VerdictLaws.{or-accepted, after, if-accepted, none_so}

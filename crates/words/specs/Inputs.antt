@@ -83,6 +83,6 @@ inputs_of_words w pool raw tracks markers comments callers lengths = record {
 }
 
 -- the same of what is lent as one
-abbrev pub told : List ℕ → Lent → Inputs
-told w l =
+abbrev pub inputs_told : List ℕ → Lent → Inputs
+inputs_told w l =
     inputs_of_words w l.pools.text.now l.pools.bytes.now l.tracks.now l.markers.now l.comments.now l.callers.now l.lengths.now

@@ -1,7 +1,7 @@
 // The area and the options of a build: words 0 to 51.
 ghost use Rattle.std.specs.Prelude.{◌≡◌};
 ghost use Rattle.build_options.specs.Inputs.{inputs_of};
-ghost use Rattle.words.specs.Inputs.{area_of, channel_numbers_of, choices_of, told};
+ghost use Rattle.words.specs.Inputs.{area_of, channel_numbers_of, choices_of, inputs_told};
 
 use crate::orders::{info_order, local_order, property_order};
 use build_options::area::Area;
@@ -86,7 +86,7 @@ pub fn options_of(words: &[u32]) -> Options
 // The inputs of a build that are told as words, with what is lent beside them.
 #[tactic(auto, unfolding(crate::specs::Inputs::inputs_of_words))]
 pub fn inputs_of<'a>(words: &[u32], lent: &Lent<'a>) -> Inputs<'a>
-    ensures { inputs_of result ≡ told words.now lent.now }
+    ensures { inputs_of result ≡ inputs_told words.now lent.now }
 {
     Inputs {
         area: area_of(words),

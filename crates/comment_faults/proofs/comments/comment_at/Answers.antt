@@ -4,11 +4,7 @@ use Prim.Native.Nat.{ℕ, ◌+◌, ◌-◌, ◌*◌}
 use native.Mathlib.Omega.{arith}
 use lib.ListN.{take, drop}
 use Rattle.comt.specs.Comment.{comment_of}
-use Rattle.comt.proofs.CommentLaws.{row-whole}
 use Rattle.comment_faults.proofs.comments.comment_at.Goals as goal
-
-pub comment_of-requires : goal.comment_of-requires
-comment_of-requires c = row-whole c.args.rows.now c.args.k c.requires
 
 pub returns : goal.returns
 returns c =
