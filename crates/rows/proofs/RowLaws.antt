@@ -7,7 +7,7 @@ use native.Mathlib.Numerals.{add-one}
 use native.Mathlib.Omega.{arith}
 use denote.Ref.{Bor}
 use lib.ListN.{length, get_or, take, drop, length-take, length-append, length-drop, get_or-eq_default}
-use lib.Seq.{get_or-take, get_or-drop, take-append_seam, drop-append_seam, drop-drop}
+use lib.Seq.{get_or-take, get_or-drop, take-append_seam, drop-append_seam, drop-drop, take_all}
 use Rattle.std.specs.Prelude.{Some, None}
 use Rattle.std.specs.Slice.Iter.{chunks_exact_rest, chunks_exact_size, chunks_exact_steps}
 use Rattle.std.specs.declared.slice.ChunksExact.{ChunksExact}
@@ -63,3 +63,7 @@ module _ (w : ℕ) {words : List ℕ} {s : ChunksExact ℕ} where
         let few : length words - k * w < w = rw (← length-drop, ← l.left, ← l.wide) step.1.0 in
         let end : length words / w < k + 1 = (div-lt_iff_lt-mul some).1 (rw (add-one, suc-mul) (omega (arith, few))) in
         omega (arith, end, l.within)
+
+-- such a row is its own row 0
+pub row_alone : (w : ℕ) (words : List ℕ) {row : List ℕ} (k : ℕ) → row ≡ row_at w words k → take w row ≡ row_at w words k
+row_alone w words k is = rw is (take_all w (row_at w words k) (omega (arith, length-take w (drop (k * w) words))))
