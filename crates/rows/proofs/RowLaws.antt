@@ -11,7 +11,9 @@ use lib.Seq.{get_or-take, get_or-drop, take-append_seam, drop-append_seam, drop-
 use Rattle.std.specs.Prelude.{Some, None}
 use Rattle.std.specs.Slice.Iter.{chunks_exact_rest, chunks_exact_size, chunks_exact_steps}
 use Rattle.std.specs.declared.slice.ChunksExact.{ChunksExact}
-use Rattle.rows.specs.Row.{row_at}
+use Rattle.rows.specs.declared.row.Row.{Row}
+use Rattle.rows.specs.declared.row.Row.TheVariants.{Text, Caller, Track, Marker, Comment}
+use Rattle.rows.specs.Row.{width, row_at}
 
 -- the rows after the last are not there
 pub rows_past : (n w k : ℕ) → 0 < w → n / w < k → n < k * w
@@ -65,5 +67,13 @@ module _ (w : ℕ) {words : List ℕ} {s : ChunksExact ℕ} where
         omega (arith, end, l.within)
 
 -- such a row is its own row 0
-pub row_alone : (w : ℕ) (words : List ℕ) {row : List ℕ} (k : ℕ) → row ≡ row_at w words k → take w row ≡ row_at w words k
-row_alone w words k is = rw is (take_all w (row_at w words k) (omega (arith, length-take w (drop (k * w) words))))
+pub row_alone : (w : ℕ) (words : List ℕ) {row : List ℕ} (k : ℕ) → row ≡ row_at w words k → row_at w row 0 ≡ row_at w words k
+row_alone w words k is = rw (is, zero-mul) (take_all w (row_at w words k) (omega (arith, length-take w (drop (k * w) words))))
+
+-- every row has a word
+pub some_width : (kind : Row) → 0 < width kind
+some_width Text = omega arith
+some_width Caller = omega arith
+some_width Track = omega arith
+some_width Marker = omega arith
+some_width Comment = omega arith
