@@ -1,24 +1,13 @@
 // 34 to 36: comments.
-ghost use Rattle.std.specs.Prelude.{◌≡◌, ◌<◌, ◌/◌, length};
-ghost use Rattle.comt.specs.Comment.{comment_of};
-ghost use Rattle.rows.specs.Row.{row_at};
+ghost use Rattle.std.specs.Prelude.{◌≡◌};
 ghost use Rattle.comment_faults.specs.Comments.{date_wrong, most_reference, reference_wrong, is_written_comment, fault_of, comment_faults};
 
 use comt::comt::{Comment, WORDS, comment_of};
 use refusal::verdict::{Refusal, Verdict, refuse_if};
-use rows::row::Row;
 use texts::text::{TextOptions, text_count};
 
 // What the count of COMT can tell.
 const MOST_COMMENTS: usize = 65_535;
-
-// Comment k.
-fn comment_at(rows: &[u32], k: usize) -> Comment
-    requires { k < length rows.now / 9 }
-    ensures { result ≡ comment_of (row_at 9 rows.now k) }
-{
-    comment_of(&rows[k * WORDS..k * WORDS + WORDS])
-}
 
 // Whether the time stamp is out of range.
 fn date_wrong(c: Comment) -> bool
@@ -66,8 +55,8 @@ pub fn comment_faults(comments: &[u32], pool: &[u32], options: TextOptions, chan
     ensures { result ≡ comment_faults comments.now pool.now options channels }
 {
     let mut before = 0;
-    for k in 0..Row::Comment.count(comments) {
-        let c = comment_at(comments, k);
+    for row in comments.chunks_exact(WORDS) {
+        let c = comment_of(row);
         let written = is_written(c, pool, options);
         fault_of(c, written, before, channels)?;
         before += usize::from(written);

@@ -5,8 +5,11 @@ ghost use Rattle.faults.specs.Caller.{space_then_more, is_no_name, name_fault, c
 
 use chunk_names::is_reserved;
 use refusal::verdict::{Refusal, Verdict, refuse_if};
-use rows::row::{Row, word};
+use rows::row::word;
 use texts::text::printable;
+
+// The words of a caller chunk's row: name, start, length.
+const WORDS: usize = 3;
 
 const SPACE: u8 = 0x20;
 
@@ -46,8 +49,8 @@ fn name_fault(name: [u8; 4]) -> Verdict
 pub fn caller_faults(callers: &[u32]) -> Verdict
     ensures { result ≡ caller_faults callers.now }
 {
-    for k in 0..Row::Caller.count(callers) {
-        name_fault(name_of(word(callers, 3, k, 0)))?;
+    for row in callers.chunks_exact(WORDS) {
+        name_fault(name_of(word(row, WORDS, 0, 0)))?;
     }
     Ok(())
 }

@@ -17,16 +17,15 @@ pub fn extents(kind: Row, rows: &[u32], most: u64, longest: u32, pool: usize) ->
     ensures outside_value { result.outside ≡ outside_pool kind rows.now pool }
 {
     let w = kind.width();
-    let n = kind.count(rows);
     let mut long = false;
     let mut outside = false;
-    for k in 0..n {
-        let e = extent_at(rows, w, k);
+    for row in rows.chunks_exact(w) {
+        let e = extent_at(row, w, 0);
         long |= longest < e.length;
         outside |= (pool as u64) < e.start as u64 + e.length as u64;
     }
     RowFaults {
-        too_large: (most < n as u64) | long,
+        too_large: (most < kind.count(rows) as u64) | long,
         outside: kind.is_cut_short(rows) | outside,
     }
 }

@@ -2,8 +2,11 @@
 ghost use Rattle.std.specs.Prelude.{◌≡◌};
 ghost use Rattle.rows.specs.Durations.{short_tracks};
 
-use crate::row::{Row, word};
+use crate::row::word;
 use refusal::verdict::{Refusal, Verdict, refuse_if};
+
+// The words of a track's row: start, duration, title start, title length.
+const WORDS: usize = 4;
 
 const SHORTEST: u32 = 75;
 
@@ -11,8 +14,8 @@ const SHORTEST: u32 = 75;
 pub fn short_tracks(tracks: &[u32]) -> Verdict
     ensures { result ≡ short_tracks tracks.now }
 {
-    for k in 0..Row::Track.count(tracks) {
-        let short = word(tracks, 4, k, 1) < SHORTEST;
+    for (k, row) in tracks.chunks_exact(WORDS).enumerate() {
+        let short = word(row, WORDS, 0, 1) < SHORTEST;
         refuse_if(
             short,
             Refusal::ShortTrack {
