@@ -1,5 +1,5 @@
 // The caller's chunks: rows of a name and the extent of the data in the byte pool.
-ghost use Rattle.std.specs.Prelude.{◌≡◌, length};
+ghost use Rattle.std.specs.Prelude.{◌≡◌};
 ghost use Rattle.chunk.specs.Append.{Appended};
 ghost use Rattle.tree.specs.Tree.{bytes};
 ghost use Rattle.caller_chunks.specs.Caller.{caller_chunk, caller_chunks};
@@ -11,15 +11,15 @@ use texts::extent::Extent;
 // Words a row.
 const WORDS: usize = 3;
 
-// The chunk of a row.
+// The chunk of a row; a word that the row hasn't is 0.
 fn caller_chunk(c: Cursor, out: &mut [u8], raw: &[u8], row: &[u32]) -> Cursor
-    requires { length row.now ≡ 3 }
     ensures { Appended out.old c.at (bytes (caller_chunk raw.now row.now)) out.new result.at }
 {
-    let name = name_of(row[0]);
+    let word = |k: usize| row.get(k).copied().unwrap_or(0);
+    let name = name_of(word(0));
     let data = Extent {
-        start: row[1],
-        length: row[2],
+        start: word(1),
+        length: word(2),
     };
     c.chunk(out, name, &raw[data.first(raw.len())..data.end(raw.len())])
 }

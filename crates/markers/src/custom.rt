@@ -1,5 +1,5 @@
 // Markers that are given, as rows of words.
-ghost use Rattle.std.specs.Prelude.{◌≡◌, length};
+ghost use Rattle.std.specs.Prelude.{◌≡◌};
 ghost use Rattle.chunk.specs.Append.{Appended};
 ghost use Rattle.tree.specs.Tree.{bytes, each};
 ghost use Rattle.markers.specs.Marker.{mark};
@@ -26,19 +26,19 @@ fn kind_of(n: u32) -> MarkerKind
     }
 }
 
-// The marker of a row.
+// The marker of a row; a word that the row hasn't is 0.
 #[tactic(auto, unfolding(crate::specs::Custom::custom_of))]
 fn custom_of(row: &[u32]) -> Marker
-    requires { length row.now ≡ 4 }
     ensures { result ≡ custom_of row.now }
 {
+    let word = |k: usize| row.get(k).copied().unwrap_or(0);
     Marker {
-        frame: row[0],
-        kind: kind_of(row[1] / 0x1_0000),
-        track_flags: (row[1] % 0x1_0000) as u16,
+        frame: word(0),
+        kind: kind_of(word(1) / 0x1_0000),
+        track_flags: (word(1) % 0x1_0000) as u16,
         text: MarkerText::Bytes(Extent {
-            start: row[2],
-            length: row[3],
+            start: word(2),
+            length: word(3),
         }),
     }
 }

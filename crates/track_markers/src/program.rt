@@ -12,7 +12,7 @@ use chunk::Cursor;
 use markers::marker::{Marker, MarkerKind, MarkerText, Marking, mark};
 use texts::pools::Pools;
 use tracks::order::ProgramOptions;
-use tracks::track::{Span, WORDS, track_span};
+use tracks::track::{Span, WORDS, span_of};
 
 // How far spans were written, and the stop of the last one, if there is one, which is written when the next is known.
 #[derive(Clone, Copy)]
@@ -105,8 +105,8 @@ pub(crate) fn program(
         end: mark(c, out, pools, how, start),
         stop: None,
     };
-    for i in 0..tracks.len() / WORDS {
-        let s = track_span(tracks, i).clip(p.first, p.end);
+    for row in tracks.chunks_exact(WORDS) {
+        let s = span_of(row).clip(p.first, p.end);
         done = done.add(out, pools, how, p.titles, s);
     }
     done.close(out, pools, how)

@@ -5,23 +5,18 @@ use Prim.Native.Nat.{ℕ, suc, ◌+◌, ◌-◌, ◌*◌, ◌/◌, ◌≤◌, �
 use native.Mathlib.Omega.{arith}
 use lib.ListN.{length, take, drop, drop_of_length-le, get_or-map, length-append}
 use lib.Seq.{take_all, drop-cons, take-append_seam, drop-append_seam}
-use borrow.Author.Tests.{lt-ltb}
 use Rattle.chunk.specs.Rows.{first_rows, rows}
 use Rattle.chunk.proofs.ListLaws.{flat_map-append, flat_map-one}
-use Rattle.chunk.proofs.RowsLaws.{get_rows, row_words, length_mapped, mapped_next, mapped_all}
-use Rattle.tracks.specs.Track.{span_of, span_at, spans, clip, kept, clipped, track_span}
+use Rattle.chunk.proofs.RowsLaws.{get_rows, row_words, length_mapped, mapped_next}
+use Rattle.tracks.specs.Track.{span_of, span_at, spans, clip, kept, clipped}
 use Rattle.tracks.specs.declared.track.Span.{Span}
 use Rattle.tracks.proofs.RowLaws.{row-whole}
 
 module _ (words : List ℕ) (i : ℕ) where
-  -- one track more, and all tracks
+  -- one track more
   pub spans-next : i < length words / 4 → take (i + 1) (spans words) ≡ take i (spans words) ++ (span_at words i ∷ [])
   unfolding spans span_at
   spans-next more = mapped_next span_of 4 words i more
-
-  pub spans_all : length words / 4 ≤ i → take i (spans words) ≡ spans words
-  unfolding spans
-  spans_all done = mapped_all span_of 4 words i done
 
   -- track i alone, and the tracks after all
   one_span : i < length words / 4 → take 1 (drop i (spans words)) ≡ span_at words i ∷ []
@@ -36,11 +31,6 @@ module _ (words : List ℕ) (i : ℕ) where
   pub spans_past : length words / 4 ≤ i → drop i (spans words) ≡ []
   unfolding spans
   spans_past done = drop_of_length-le (map span_of (rows 4 words)) {i = i} (omega (arith, length_mapped span_of 4 words))
-
-  -- a track that is there
-  pub span_there : i < length words / 4 → track_span words i ≡ span_at words i
-  unfolding track_span
-  span_there more = rw (lt-ltb _ _ more)
 
 -- the first track, and the others; words that make no track
 pub spans_front : (row rest : List ℕ) → length row ≡ 4 → spans (row ++ rest) ≡ span_of row ∷ spans rest

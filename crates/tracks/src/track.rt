@@ -15,17 +15,18 @@ pub struct Span {
     pub title: Extent,
 }
 
-// The span of a row. An end that passes a u32 is the largest one.
-pub(crate) fn span_of(row: &[u32]) -> Span
-    requires { length row.now ≡ 4 }
+// The span of a row; a word that the row hasn't is 0. An end that passes a u32 is the largest one.
+#[tactic(auto, unfolding(crate::specs::Track::span_of))]
+pub fn span_of(row: &[u32]) -> Span
     ensures { result ≡ span_of row.now }
 {
+    let word = |k: usize| row.get(k).copied().unwrap_or(0);
     Span {
-        start: row[0],
-        end: row[0].saturating_add(row[1]),
+        start: word(0),
+        end: word(0).saturating_add(word(1)),
         title: Extent {
-            start: row[2],
-            length: row[3],
+            start: word(2),
+            length: word(3),
         },
     }
 }

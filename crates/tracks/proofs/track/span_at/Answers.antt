@@ -2,11 +2,7 @@
 use mathlib.Core.Path.{◌∙◌, ap}
 use Rattle.tracks.specs.Track.{span_of, span_at}
 use Rattle.chunk.proofs.RowsLaws.{row_words}
-use Rattle.tracks.proofs.RowLaws.{row-whole}
 use Rattle.tracks.proofs.track.span_at.Goals as goal
-
-pub span_of-requires : goal.span_of-requires
-span_of-requires c = row-whole c.args.tracks.now c.args.i c.requires
 
 pub returns : goal.returns
 unfolding span_at
