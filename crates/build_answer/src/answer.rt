@@ -15,7 +15,8 @@ pub struct Built {
 // What a build answers.
 pub type Answer = Result<Built, Refusal>;
 
-// The lengths of header, sound and trailer, or the detail of a refusal and zeros.
+// The lengths of header, sound and trailer, or the detail of a refusal and zeros. A function for each answer (read_answer, calendar have the others): how many
+// values there are differs, and a trait over that is no plainer.
 pub fn build_values(answer: Answer) -> [u64; 3]
     ensures { result ≡ build_values answer }
 {

@@ -1,4 +1,4 @@
 // What a build answers.
 #![tactic(auto)]
 
-pub mod answer; // answer.rt: the lengths of header, sound and trailer, or document 01's number and a detail
+pub mod answer; // answer.rt: the lengths of header, sound and trailer, or the refusal

@@ -6,7 +6,6 @@ use Rattle.chunk_names.specs.declared.LocalChunk.{LocalChunk}
 use Rattle.build_options.specs.declared.area.Area.{Area}
 use Rattle.build_options.specs.declared.options.Options.{Options}
 use Rattle.build_options.specs.declared.inputs.Inputs as declared
-use Rattle.build_options.specs.declared.inputs.Inputs as declared
 
 pub record Inputs : Type 0 where
   pub area : Area

@@ -4,7 +4,8 @@ use crate::options::Options;
 use chunk_names::{InfoChunk, LocalChunk, PropertyChunk};
 use texts::pools::Pools;
 
-// What is lent: the pools, rows of words, and the lengths of the DST frames.
+// What is lent: the pools, rows of words, and the lengths of the DST frames. Rows are flat, as the exported functions are lent them; one that is cut short is
+// refusal 2.
 #[derive(Clone, Copy)]
 pub struct Lent<'a> {
     pub pools: Pools<'a>,
@@ -15,6 +16,7 @@ pub struct Lent<'a> {
     pub lengths: &'a [u32],
 }
 
+// Contracts speak of it by `inputs_of` (specs/Inputs), since its fields are public.
 #[derive(Clone, Copy)]
 pub struct Inputs<'a> {
     pub area: Area,

@@ -5,6 +5,7 @@ ghost use Rattle.dsdiff.specs.Table.{stored, filled};
 use markers::marker::MarkerKind;
 use texts::extent::Extent;
 
+// 01's form: a lent slice of records, which one loop takes apart.
 #[derive(Clone, Copy)]
 pub struct Marker {
     pub frame: u32,
@@ -16,7 +17,7 @@ pub struct Marker {
 // Most markers (01, refusal 1).
 pub(crate) const MOST_MARKERS: usize = 65_535;
 
-// Four words for each: 1 MiB.
+// Four words for each: 1 MiB, of a fixed length, since there is no heap.
 pub(crate) type Table = [u32; 262_140];
 
 // A marker into row `i` of the table, if the table has that row.

@@ -20,14 +20,14 @@ use tracks::order::ProgramOptions;
 // What DIIN tells.
 #[derive(Clone, Copy)]
 pub struct Info {
-    pub on: bool, // whether there is a DIIN
+    pub on: bool, // whether there is a DIIN; beside the rest, as the exported function is told it
     pub empty_info: bool, // whether one without chunks is written
     pub emid: Option<Extent>, // bytes of the byte pool, written if given
     pub custom_markers: bool, // whether the markers are those given, not made from tracks
     pub program: ProgramOptions,
     pub start: Option<u32>, // the file's absolute start, in frames
     pub text: TextOptions,
-    pub artist_title: bool, // whether DIAR and DITI are wanted
+    pub artist_title: bool, // whether DIAR and DITI are wanted; beside the texts, likewise
     pub artist_title_source: ArtistTitleSource,
     pub album: ArtistTitle,
     pub track: ArtistTitle,

@@ -1,4 +1,5 @@
-// What single numbers mean: each is made into a type of a build's inputs.
+// What single numbers mean: each is made into a type of a build's inputs. By functions, not `From`: the types are other crates', and the numbers are those of the
+// exported functions.
 #![tactic(auto)]
 
 pub mod text; // text.rt: the rule, the options and the place of a text

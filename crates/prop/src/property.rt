@@ -61,7 +61,7 @@ fn is_written(p: Properties, part: PropertyChunk) -> bool
     }
 }
 
-// The data of CHNL: the count and the names.
+// The data of CHNL: the count and the names. Six names by value are 01's form; the first `count` of them are meant.
 fn chnl_data(c: Cursor, out: &mut [u8], count: u16, names: [[u8; 4]; 6]) -> Cursor
     requires { count ≤ 6 }
     ensures { Appended out.old c.at (be 2 count ++ flat_map (λ (name : Name). name) (take count names)) out.new result.at }

@@ -12,6 +12,7 @@ pub fn word(words: &[u32], i: usize) -> u32
     words.get(i).copied().unwrap_or(0)
 }
 
+// One for each width, of one line each.
 pub fn byte(words: &[u32], i: usize) -> u8
     ensures { result ≡ low_byte words.now i }
 {

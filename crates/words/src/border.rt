@@ -22,6 +22,7 @@ fn beyond(words: &[u32], first: u8, count: u8, most: u32, refusal: Refusal) -> V
     refuse_if(exceeds(words, first, count, most), refusal)
 }
 
+// The bounds of this and the next are numbers, not had of the types: what a number means is told of each number (crate meanings), and what names nothing is refused here alone.
 // There are 67 words (2), and a field holds its word: channels (7), layout (8), source track (13), replacement (24), channel numbers (26).
 #[tactic(auto, using(refusal::proofs::VerdictLaws::in_turn), unfolding(crate::specs::Border::field_faults))]
 fn field_faults(words: &[u32]) -> Verdict
