@@ -1,4 +1,4 @@
--- Words of rows. Assumes nothing.
+-- Words of rows, and what a loop over rows and a chain over rows are given. Assumes nothing.
 use mathlib.Core.Path.{◌≡◌, refl, sym, ap, ◌∙◌}
 use mathlib.Core.Bool.{Bool, ◌||◌}
 use mathlib.Core.List.{List, [], ◌∷◌, ◌++◌, map}
@@ -96,6 +96,7 @@ module _ (w : ℕ) (words : List ℕ) (some : 0 < w) where
       → YieldsList chunks_exact_steps (λ x. row_at w x.now 0) s (map (row_at w words) (range_with_len 0 (length words / w)))
   rows_come {s} wide all = record { runs = rows-from (length words / w) 0 s (none_given w wide all) (omega arith) }
 
+-- a test of what a list is taken to
 pub any-map : {A B : Type 0} (p : B → Bool) (f : A → B) (xs : List A) → list_any p (map f xs) ≡ list_any (λ x. p (f x)) xs
 any-map p f [] = refl
 any-map p f (x ∷ xs) = ap (λ (b : Bool). p (f x) || b) (any-map p f xs)
