@@ -1,7 +1,8 @@
--- Words of rows. Assumes nothing.
+-- Words of rows, and what a loop over rows and a chain over rows are given. Assumes nothing.
 use mathlib.Core.Path.{◌≡◌, refl, sym, ap, ◌∙◌}
-use mathlib.Core.List.{List, ◌++◌}
-use Prim.Native.Nat.{ℕ, ◌+◌, ◌-◌, ◌*◌, ◌/◌, ◌<◌, ◌≤◌}
+use mathlib.Core.Bool.{Bool, ◌||◌}
+use mathlib.Core.List.{List, [], ◌∷◌, ◌++◌, map}
+use Prim.Native.Nat.{ℕ, zero, suc, ◌+◌, ◌-◌, ◌*◌, ◌/◌, ◌<◌, ◌≤◌}
 use native.Mathlib.Nat.{div-lt_iff_lt-mul, le-div_iff_mul-le, suc-mul, zero-mul}
 use native.Mathlib.Numerals.{add-one}
 use native.Mathlib.Omega.{arith}
@@ -9,6 +10,9 @@ use denote.Ref.{Bor}
 use lib.ListN.{length, get_or, take, drop, length-take, length-append, length-drop, get_or-eq_default}
 use lib.Seq.{get_or-take, get_or-drop, take-append_seam, drop-append_seam, drop-drop, take_all}
 use Rattle.std.specs.Prelude.{Some, None}
+use Rattle.std.specs.List.{list_any, range_with_len}
+use Rattle.std.specs.Iterator.{AlwaysYields}
+use Rattle.std.proofs.lemmas.Iterator.{YieldsList}
 use Rattle.std.specs.Slice.Iter.{chunks_exact_rest, chunks_exact_size, chunks_exact_steps}
 use Rattle.std.specs.declared.slice.ChunksExact.{ChunksExact}
 use Rattle.rows.specs.declared.row.Row.{Row}
@@ -77,3 +81,22 @@ some_width Caller = omega arith
 some_width Track = omega arith
 some_width Marker = omega arith
 some_width Comment = omega arith
+
+-- A CHAIN OVER ROWS, `rows.chunks_exact(w).any(..)`: the rows come one after another, each as its own row 0
+module _ (w : ℕ) (words : List ℕ) (some : 0 < w) where
+  rows-from : (n k : ℕ) (s : ChunksExact ℕ) → RowsLeft w words s k → k + n ≡ length words / w
+      → AlwaysYields chunks_exact_steps (λ x. row_at w x.now 0) s (map (row_at w words) (range_with_len k n))
+  rows-from zero k s l all = λ x j step. absurd (omega (arith, all, (row_given w k some l x j step).1))
+  rows-from (suc n) k s l all = (
+    λ j step. absurd (omega (arith, all, all_given w k some l j step)),
+    λ x j step. let next = row_given w k some l x j step in (row_alone w words k next.0, rows-from n (k + 1) j next.2 (omega (arith, all))),
+  )
+
+  pub rows_come : {s : ChunksExact ℕ} → chunks_exact_size s ≡ w → chunks_exact_rest s ≡ words
+      → YieldsList chunks_exact_steps (λ x. row_at w x.now 0) s (map (row_at w words) (range_with_len 0 (length words / w)))
+  rows_come {s} wide all = record { runs = rows-from (length words / w) 0 s (none_given w wide all) (omega arith) }
+
+-- a test of what a list is taken to
+pub any-map : {A B : Type 0} (p : B → Bool) (f : A → B) (xs : List A) → list_any p (map f xs) ≡ list_any (λ x. p (f x)) xs
+any-map p f [] = refl
+any-map p f (x ∷ xs) = ap (λ (b : Bool). p (f x) || b) (any-map p f xs)

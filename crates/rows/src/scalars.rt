@@ -35,5 +35,6 @@ pub fn no_scalars(kind: Row, rows: &[u32], pool: &[u32]) -> bool
     ensures { result ≡ no_scalars kind rows.now pool.now }
 {
     let w = kind.width();
-    (0..kind.count(rows)).any(|k| part_has_no_scalar(pool, extent_at(rows, w, k)))
+    rows.chunks_exact(w)
+        .any(|row| part_has_no_scalar(pool, extent_at(row, w, 0)))
 }
