@@ -82,3 +82,16 @@ no_date = refl
 first-at_fault : map (λ (start : Stamp). falls_in start (on 2_024 13 1) (on 2_024 2 30)) (on 2_023 2 29 ∷ on 2_024 2 29 ∷ []) ≡ Err NoDate ∷ Err CommentDate ∷ []
 unfolding falls_in
 first-at_fault = refl
+
+-- the numbers of these refusals
+numbers :
+    map (λ (f : Falls). number_of f)
+    (falls_in (on 2_024 0 0) (on 2_024 3 1) (on 2_024 2 29)
+    ∷ falls_in (on 2_024 2 29) (on 0 0 0) (on 2_024 2 29)
+    ∷ leap_day (on 2_024 2 30)
+    ∷ falls_in (on 2_023 2 29) (on 2_024 13 1) (on 2_024 2 30)
+    ∷ falls_in (on 2_024 2 29) (on 2_024 13 1) (on 2_024 2 30)
+    ∷ [])
+    ≡ 46 ∷ 46 ∷ 46 ∷ 46 ∷ 34 ∷ []
+unfolding falls_in
+numbers = refl

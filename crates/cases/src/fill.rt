@@ -2,10 +2,15 @@
 use crate::number::number;
 use std::alloc::{AllocError, Global};
 
-// Adds the row, as far as there is room for so many numbers in all.
-fn put(list: &mut Vec<u32>, row: &[u32], room: usize) -> Result<(), AllocError> {
-    let n = row.len().min(room.saturating_sub(list.len()));
-    list.extend_from_slice(&row[..n])
+// Adds the row so many times, as far as there is room for so many numbers in all. No more is reserved than is added.
+fn put(list: &mut Vec<u32>, row: &[u32], times: u32, room: usize) -> Result<(), AllocError> {
+    let left = room.saturating_sub(list.len());
+    let n = row.len().saturating_mul(times as usize).min(left);
+    list.reserve_exact(n)?;
+    for value in row.iter().cycle().take(n) {
+        list.push(*value)?;
+    }
+    Ok(())
 }
 
 // The numbers of a text, with a space between them, as far as there is room for so many. A * has the times that the numbers
@@ -17,14 +22,12 @@ pub(crate) fn fill(alloc: Global, text: &[u8], room: usize) -> Result<Vec<u32>, 
         match word {
             [] => {}
             [b'*', times @ ..] => {
-                for _ in 0..number(times).max(1) {
-                    put(&mut list, &row, room)?;
-                }
+                put(&mut list, &row, number(times).max(1), room)?;
                 row.clear();
             }
             _ => row.push(number(word))?,
         }
     }
-    put(&mut list, &row, room)?;
+    put(&mut list, &row, 1, room)?;
     Ok(list)
 }

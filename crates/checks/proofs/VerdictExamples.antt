@@ -8,6 +8,7 @@ use Rattle.prop_fields.specs.declared.layout.Layout.TheVariants.{Stereo, Unspeci
 use Rattle.std.specs.Prelude.{Some}
 use Rattle.refusal.specs.declared.verdict.Refusal.TheVariants as refused
 use Rattle.refusal.specs.Below.{below}
+use Rattle.refusal.specs.Verdict.{number_of}
 use Rattle.refusal.specs.Orders.{times, each_once}
 use Rattle.channel_rules.specs.ChannelNumbers.{number_faults}
 use Rattle.std.specs.Prelude.{Ok, Err}
@@ -60,6 +61,19 @@ repeat_is-27 :
     ≡ Err refused.ChannelNumberTwice
 unfolding numbers_fault number_faults times below
 repeat_is-27 = refl
+
+-- the numbers of these refusals
+numbers :
+    number_of (start_fault (stereo Dsd) (Some 6_479_999))
+    ∷ number_of (area_faults (stereo Dst) (0 ∷ []))
+    ∷ number_of (area_faults (stereo Dst) (65_537 ∷ []))
+    ∷ number_of
+    (numbers_fault (record { sound = Dsd; playtime = 1; channels = 3; layout = Unspecified; first = 0; end = 1 })
+    (Some (record { count = 3; numbers = 5 ∷ 5 ∷ 1000 ∷ 0 ∷ 0 ∷ 0 ∷ [] })))
+    ∷ []
+    ≡ 29 ∷ 10 ∷ 10 ∷ 27 ∷ []
+unfolding start_fault area_faults area_fault lengths_fault range_fault lengths_wrong numbers_fault number_faults times below
+numbers = refl
 
 -- the plain build: stereo DSD, one position, the defaults; nothing is lent
 abbrev plain : Inputs

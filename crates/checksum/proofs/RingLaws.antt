@@ -34,11 +34,11 @@ bytes-append r [] b = refl
 bytes-append r (x ∷ a) b = bytes-append (byte_of r x) a b
 
 -- bytes as a number, the first lowest
-abbrev low : List ℕ → ℕ
+abbrev pub low : List ℕ → ℕ
 low [] = 0
 low (b ∷ bs) = low bs * 256 + b
 
-low_fed : (bs : List ℕ) (r : ℕ) → ((k : ℕ) → get_or bs k 0 < 256) → feed (length bs) r (low bs) ≡ bytes_of r bs
+pub low_fed : (bs : List ℕ) (r : ℕ) → ((k : ℕ) → get_or bs k 0 < 256) → feed (length bs) r (low bs) ≡ bytes_of r bs
 unfolding feed bytes_of
 low_fed [] r h = refl
 low_fed (b ∷ bs) r h =

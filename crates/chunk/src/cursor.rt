@@ -46,7 +46,7 @@ impl Cursor {
         let room = out.len() - at;
         if src.len() <= room {
             out[at..at + src.len()].copy_from_slice(src);
-        } else {
+        } else if 0 < room {
             out[at..].copy_from_slice(&src[..room]);
         }
         self.skip(src.len())

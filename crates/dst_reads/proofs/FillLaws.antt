@@ -57,7 +57,7 @@ pub next-unit : (crc : Bool) (n : ℕ) (ls frames contents : List ℕ) {k : ℕ}
 next-unit crc n ls frames contents {k} h p q = rw (add-one, sound-suc crc n ls frames contents k h) (p then q)
 
 -- what a DSTC chunk occupies
-length_dstc : (x : ℕ) → length (chunk (ascii "DSTC") (be 4 x)) ≡ 16
+pub length_dstc : (x : ℕ) → length (chunk (ascii "DSTC") (be 4 x)) ≡ 16
 unfolding occupied
 length_dstc x = length-chunk (ascii "DSTC") (be 4 x) refl ∙ rw (length-be 4 x)
 

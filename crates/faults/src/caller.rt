@@ -30,11 +30,11 @@ fn space_then_more(a: u8, b: u8) -> bool
 fn is_no_name(name: [u8; 4]) -> bool
     ensures { result ≡ is_no_name name }
 {
-    !name.iter().all(|byte| printable(*byte as u32))
-        | name
-            .iter()
-            .zip(&name[1..])
-            .any(|(a, b)| space_then_more(*a, *b))
+    let [a, b, c, d] = name;
+    let text = printable(a as u32)
+        & (printable(b as u32) & (printable(c as u32) & printable(d as u32)));
+    let spaced = space_then_more(a, b) | (space_then_more(b, c) | space_then_more(c, d));
+    !text | spaced
 }
 
 // 4 and 5 of one name.

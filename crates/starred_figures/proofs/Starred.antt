@@ -61,6 +61,8 @@ starred = record {
   last_time = refl;
   start-passes = refl;
   start-is-29 = refl;
+  start-number = refl;
+  start-detail = refl;
   crc-one = refl;
   crc-none = refl;
 }

@@ -16,6 +16,7 @@ use Rattle.prop_fields.specs.declared.compression.Sound.TheVariants.{Dsd, Dst}
 use Rattle.prop_fields.specs.declared.layout.Layout.TheVariants.{Stereo}
 use Rattle.prop_fields.specs.Start.{Start}
 use Rattle.refusal.specs.declared.verdict.Refusal.TheVariants as refused
+use Rattle.refusal.specs.Verdict.{number_of, detail_of}
 use Rattle.build_options.specs.declared.options.Options.{Options}
 use Rattle.build_options.specs.Options.{defaults}
 use Rattle.build_options.specs.Inputs.{Inputs}
@@ -106,6 +107,8 @@ pub record StarredFigures : Type 0 where
   pub last_time : time_of 6_479_999 ≡ record { hours = 23; minutes = 59; seconds = 59; samples = 2_784_768 }
   pub start-passes : verdict (dsd-from 6_479_998) ≡ Ok tt
   pub start-is-29 : verdict (dsd-from 6_479_999) ≡ Err refused.Start
+  pub start-number : number_of (verdict (dsd-from 6_479_999)) ≡ 29
+  pub start-detail : detail_of (verdict (dsd-from 6_479_999)) ≡ 0
   -- "CRC of byte 1 is 0x80000011; of nothing, 0"
   pub crc-one : crc_of (1 ∷ []) ≡ 0x8000_0011
   pub crc-none : crc_of [] ≡ 0

@@ -1,4 +1,6 @@
 // What is counted: refusals by their numbers, which are below 64, and from there on what else there is.
+use crate::number::plus;
+
 const ROOM: usize = 89;
 
 #[derive(Clone, Copy)]
@@ -50,7 +52,7 @@ impl Counts {
 
     pub(crate) fn add(&mut self, k: Count, n: usize) {
         let k = k as usize;
-        self.counts[k] = self.counts[k].saturating_add(n);
+        self.counts[k] = plus(self.counts[k], n);
     }
 
     // One more if it is so.
@@ -64,7 +66,7 @@ impl Counts {
     pub(crate) fn add_refusal(&mut self, number: u64) {
         if number < ROOM as u64 {
             let k = number as usize;
-            self.counts[k] = self.counts[k].saturating_add(1);
+            self.counts[k] = plus(self.counts[k], 1);
         }
     }
 }

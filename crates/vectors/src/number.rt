@@ -11,6 +11,11 @@ pub(crate) fn count(n: u64) -> usize {
     n.min(PAST as u64) as usize
 }
 
+// The sum of counts, PAST where one of them is as much.
+pub(crate) fn plus(a: usize, b: usize) -> usize {
+    if a >= PAST || b >= PAST { PAST } else { a + b }
+}
+
 // The first number, and what follows it, if the file does not end before.
 fn first(file: &[u8]) -> Option<(u64, &[u8])> {
     let mut value = 0;

@@ -1,5 +1,6 @@
 // Lines of the answer.
 use crate::counts::{Count, Counts};
+use crate::number::plus;
 use std::io;
 
 // How many are of each kind of sound.
@@ -13,7 +14,7 @@ fn builds(rt: &impl Print, counts: &Counts) -> io::Result<()> {
     let agree = counts.get(Count::BuildsAgree);
     let bytes = counts.get(Count::Bytes);
     let short = counts.get(Count::Short);
-    print!(rt; "builds: {}; built: {built}", built.saturating_add(refused))?;
+    print!(rt; "builds: {}; built: {built}", plus(built, refused))?;
     kinds(
         rt,
         counts.get(Count::BuiltDsd),
@@ -55,10 +56,7 @@ fn reads(rt: &impl Print, counts: &Counts) -> io::Result<()> {
         counts.get(Count::WindowsDstWithCrcs),
     )?;
     println!(rt; "; agree: {}", counts.get(Count::QueriesAgree))?;
-    print!(rt;
-        "reads: {}; filled: {filled}",
-        filled.saturating_add(not_filled)
-    )?;
+    print!(rt; "reads: {}; filled: {filled}", plus(filled, not_filled))?;
     println!(rt; "; refused: {not_filled}; agree: {agree}")?;
     println!(rt; "bytes filled that agree: {bytes}")
 }

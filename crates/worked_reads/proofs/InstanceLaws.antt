@@ -1,7 +1,7 @@
 -- An instance holds, if what is computed of it is so. Assumes nothing.
 use mathlib.Core.Path.{◌≡◌, refl, ap, subst, ◌∙◌}
 use mathlib.Core.Bool.{true, false, not}
-use mathlib.Core.List.{List, [], ◌∷◌}
+use mathlib.Core.List.{List, [], ◌∷◌, map}
 use mathlib.Core.Option.{some, IsSome}
 use Prim.Native.Nat.{ℕ, zero, suc, ◌+◌, ◌<◌}
 use native.Mathlib.Nat.{not-suc-le-zero, le_of_suc-le-suc}
@@ -13,6 +13,7 @@ use Rattle.tree.specs.Value.{dsdiff}
 use Rattle.tree.specs.Gather.{covered, Holds}
 use Rattle.dst.specs.Frame.{Frame}
 use Rattle.refusal.specs.Below.{any}
+use Rattle.refusal.specs.Verdict.{number_of, detail_of}
 use Rattle.refusal.proofs.VerdictLaws.{none_so}
 use Rattle.file_tree.specs.File.{trailer_of}
 use Rattle.assemble.specs.Build.{Builds}
@@ -53,11 +54,13 @@ module _ (w : Instance) where
     promise = promise;
   }
 
-  -- all that is computed: the build, the frames' lengths, the reads, that they leave no place of the file out, and what the readers get
+  -- all that is computed: the build, the frames' lengths, the reads with their numbers and details, that they leave no place of the file out, and what the readers get
   pub record Computed : Type 0 where
     pub built : BuiltAs
     pub recorded : Recorded w.inputs w.frames
     pub reads : AllCompute (build_of built) w.frames (worked_file w) w.reads
+    pub numbers : map (λ (r : WorkedRead). number_of r.answer) w.reads ≡ w.numbers
+    pub details : map (λ (r : WorkedRead). detail_of r.answer) w.reads ≡ w.details
     pub none_missed : any (λ p. not (covered (places_of w.reads) p)) (length (worked_file w)) ≡ false
     pub required_names_lem : read (dsdiff (required_names w.sound_names)) (worked_file w) ≡ some (record { reports = w.required_reports; end = w.end })
     pub all_names_lem : read (dsdiff all_names) (worked_file w) ≡ some (record { reports = w.all_reports; end = w.end })
@@ -98,6 +101,12 @@ module _ (w : Instance) where
       outs = called worked_build w.frames (worked_file w) (λ (c : Call). c.out) (λ (r : WorkedRead). blank r.room) (λ r a. refl) w.reads c.reads;
       lasts = called worked_build w.frames (worked_file w) (λ (c : Call). c.last) (buffer_after w) (λ r a. refl) w.reads c.reads;
       answers = called worked_build w.frames (worked_file w) (λ (c : Call). c.answer) (λ (r : WorkedRead). r.answer) (λ r a. refl) w.reads c.reads;
+      numbers =
+          called worked_build w.frames (worked_file w) (λ (c : Call). number_of c.answer) (λ (r : WorkedRead). number_of r.answer) (λ r a. refl) w.reads c.reads
+          ∙ c.numbers;
+      details =
+          called worked_build w.frames (worked_file w) (λ (c : Call). detail_of c.answer) (λ (r : WorkedRead). detail_of r.answer) (λ r a. refl) w.reads c.reads
+          ∙ c.details;
       header = refl;
       trailer = refl;
       recorded = c.recorded;

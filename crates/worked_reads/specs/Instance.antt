@@ -11,6 +11,7 @@ use Rattle.tree.specs.Gather.{window, Holds}
 use Rattle.dst.specs.Frame.{Frame}
 use Rattle.build_options.specs.Inputs.{Inputs}
 use Rattle.file_tree.specs.File.{header_of, trailer_of, file_of}
+use Rattle.refusal.specs.Verdict.{number_of, detail_of}
 use Rattle.read_answer.specs.Answer.{ReadAnswer}
 use Rattle.file_read.specs.Read.{Request}
 use Rattle.old_readers.specs.Premises.{AcceptedBuild, Call, Recorded, AllGiven}
@@ -32,6 +33,9 @@ pub record Instance : Type 0 where
   pub trailer_length : ℕ
   -- in their order
   pub reads : List WorkedRead
+  -- the numbers and the details of their answers, 0 of those that fill
+  pub numbers : List ℕ
+  pub details : List ℕ
   -- the names of the sound that a reader is to know, what it reports, and what one reports that knows all; and where their walks end
   pub sound_names : List String.String
   pub required_reports : List Report
@@ -91,6 +95,8 @@ module _ (w : Instance) where
     pub outs : map (λ (c : Call). c.out) cs ≡ map (λ (r : WorkedRead). blank r.room) w.reads
     pub lasts : map (λ (c : Call). c.last) cs ≡ map buffer_after w.reads
     pub answers : map (λ (c : Call). c.answer) cs ≡ map (λ (r : WorkedRead). r.answer) w.reads
+    pub numbers : map (λ (c : Call). number_of c.answer) cs ≡ w.numbers
+    pub details : map (λ (c : Call). detail_of c.answer) cs ≡ w.details
     pub header : b.header_buffer ≡ header_with_spare w.inputs
     pub trailer : b.trailer_buffer ≡ trailer_of w.inputs
     pub recorded : Recorded b.inputs w.frames

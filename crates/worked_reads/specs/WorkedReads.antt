@@ -71,6 +71,8 @@ dst_instance = record {
   sound_length = 64;
   trailer_length = 36;
   reads = front_read ∷ unlent_read ∷ middle_read ∷ end_read ∷ past_read ∷ seven_read ∷ [];
+  numbers = 0 ∷ 43 ∷ 0 ∷ 0 ∷ 0 ∷ 42 ∷ [];
+  details = 0 ∷ 0 ∷ 0 ∷ 0 ∷ 0 ∷ 0 ∷ [];
   sound_names = "FRM8DST " ∷ "DST FRTE" ∷ "DST DSTF" ∷ [];
   required_reports =
       dst_stereo

@@ -26,9 +26,9 @@ loop-name-preserved c = let names = c.given_names-name-items.result.now in
       written = elim c.if-on_side.branch [
         | then-on_side w ↦
             rw (w.out-is, w.c-is)
-            (side_then _ names _ Property more _ told.passed c.is_sound-sound.ensures c.on_side.ensures w.if-on_side.true told.written w.local_chunk-c.ensures)
+            (side_then _ names _ Property more _ told.passed c.is_sound-sound.ensures c.on_side.ensures w.if-on_side.true told.written w.local_chunk-c.ensures).1
         | else-on_side w ↦
             rw (w.out-is, w.c-is)
-            (side_then _ names _ Property more _ told.passed c.is_sound-sound.ensures c.on_side.ensures w.if-on_side.false told.written (none (search rules) (search rules)))
+            (side_then _ names _ Property more _ told.passed c.is_sound-sound.ensures c.on_side.ensures w.if-on_side.false told.written (none (search rules) (search rules))).1
       ];
     }
